@@ -8,19 +8,19 @@ use Rattle.clap.specs.Simple.{subcommand_of}
 use Rattle.clap.specs.Faults.{fault_of}
 use Rattle.clr_model.specs.Machine.{Options}
 use Rattle.clr_model.specs.Run.{defaults}
+use Rattle.clr_options.specs.Options.{options_of}
+use Rattle.clr_options.specs.declared.options.Options as code
 use Rattle.clr_args.specs.Budgets.{AreLawfulBudgets, budgets_of}
-use Rattle.clr_args.specs.CommandLines.{AreSettingsRead, AreSoakNumbers, HasOptions, IsOpenRead, IsPathSaid, IsReadWith}
+use Rattle.clr_args.specs.CommandLines.{AreOptionsRead, AreSoakNumbers, HasOptions, IsOpenRead, IsPathSaid, IsReadWith}
 use Rattle.clr_args.specs.CommandLines.{IsSaid, IsSoakRead}
 use Rattle.clr_args.specs.Grammar.{IsLine, Line, Says, SaysAlone, SaysImage, SaysInspect, SaysMigrate, SaysNothing}
 use Rattle.clr_args.specs.Grammar.{SaysOpen, SaysRun, SaysSoak, Text, is_among, number_of, option_names, options_in}
 use Rattle.clr_args.specs.Grammar.{said, soak_places}
 use Rattle.clr_args.specs.Parser.{program}
 use Rattle.clr_args.specs.Reading.{AreBudgetsRead, AreRead, number_in, number_or}
-use Rattle.clr_args.specs.Settings.{options_of}
 use Rattle.clr_args.specs.declared.budgets.Budgets.{Budgets}
 use Rattle.clr_args.specs.declared.command_line.CommandLine.{CommandLine}
 use Rattle.clr_args.specs.declared.command_line.CommandLine.TheVariants.{Image, Inspect, Migrate, Open, Run, Soak}
-use Rattle.clr_args.specs.declared.settings.Settings.{Settings}
 use Rattle.clr_args.proofs.Pass.{Items}
 use Rattle.clr_args.proofs.Rules.{rows_at}
 use Rattle.clr_args.proofs.Levels.{is_in, line_taken}
@@ -68,9 +68,9 @@ gives arguments found e =
 same_items : (arguments : List Text) (a b : Command) → parsed arguments ≡ Some a → parsed arguments ≡ Some b → a ≡ b
 same_items arguments a b first second = ap (λ (o : Option Command). unwrap_or o a) (sym first ∙ second)
 
--- the settings with these options
-abbrev pub settings_with : Options → Settings
-settings_with options = record {
+-- these options as code has them
+abbrev pub chosen_with : Options → code.Options
+chosen_with options = record {
   limit = options.limit;
   segment = options.segment;
   b0 = options.b0;
@@ -99,9 +99,9 @@ place_found line name is among =
     (place_is_in line.parts line.behind name (ap (is_among name) is.places ∙ among))
     ∙ read_said (said line) name 0 is.small
 
-settings_read : (name : Text) (places arguments : List Text) (options : Options) (line : Line)
-    → Says name places arguments options line → AreSettingsRead (rows_at (texts_of (said line))) (settings_with options)
-settings_read name places arguments options line says = record {
+chosen_read : (name : Text) (places arguments : List Text) (options : Options) (line : Line)
+    → Says name places arguments options line → AreOptionsRead (rows_at (texts_of (said line))) (chosen_with options)
+chosen_read name places arguments options line says = record {
   read = subst (AreRead (rows_at (texts_of (said line)))) (sym says.options_are)
       (are_read (said line) says.is_line.small);
   lawful = says.lawful;
@@ -110,7 +110,7 @@ settings_read name places arguments options line says = record {
 -- the texts of a command with options, and its options
 abbrev OptionsAt : Verb → List Text → Options → Type 0
 OptionsAt v arguments options = (items : Items) × (parsed arguments ≡ Some (v, items))
-    × AreSettingsRead (rows_at items) (settings_with options)
+    × AreOptionsRead (rows_at items) (chosen_with options)
 
 run_is_found : (arguments : List Text) (options : Options) → SaysRun arguments options
     → OptionsAt runs arguments options
@@ -118,7 +118,7 @@ run_is_found arguments options (line, says) = (
   texts_of (said line),
   parsed_at runs arguments _ says.arguments_are
       ∙ ap (option_map (λ items. (runs, items))) (options_found line says.is_line),
-  settings_read (codes "run") [] arguments options line says,
+  chosen_read (codes "run") [] arguments options line says,
 )
 
 image_is_found : (arguments : List Text) (options : Options) → SaysImage arguments options
@@ -127,18 +127,18 @@ image_is_found arguments options (line, says) = (
   texts_of (said line),
   parsed_at images arguments _ says.arguments_are
       ∙ ap (option_map (λ items. (images, items))) (options_found line says.is_line),
-  settings_read (codes "image") [] arguments options line says,
+  chosen_read (codes "image") [] arguments options line says,
 )
 
 soak_is_found : (arguments : List Text) (options : Options) (seed count : ℕ) → SaysSoak arguments options seed count
     → (items : Items) × (parsed arguments ≡ Some (soaks, items))
-    × AreSettingsRead (rows_at items) (settings_with options)
+    × AreOptionsRead (rows_at items) (chosen_with options)
     × AreSoakNumbers (rows_at items) seed count
 soak_is_found arguments options seed count (line, says, seed_is, seed_fits, count_is, some, not_too_many) = (
   texts_of (said line),
   parsed_at soaks arguments _ says.arguments_are
       ∙ ap (option_map (λ items. (soaks, items))) (soak_found line says.is_line),
-  settings_read (codes "soak") soak_places arguments options line says,
+  chosen_read (codes "soak") soak_places arguments options line says,
   record {
     seed_is = place_found line (codes "SEED") says.is_line refl ∙ ap (λ (n : ℕ). Some n) seed_is;
     seed_fits = seed_fits;
@@ -229,25 +229,25 @@ IsVerbRead opens rows line = IsOpenRead rows line
 verb_answer : (arguments rest : List Text) (v : Verb) (items : Items) → arguments ≡ name_of v ∷ rest
     → taken v rest ≡ Some items → parsed arguments ≡ Some (v, items)
     → (line : Option CommandLine) → IsVerbRead v (rows_at items) line → IsSaid arguments line
-verb_answer arguments rest runs items are takes is (Some line) (settings, line_is, are_read) =
+verb_answer arguments rest runs items are takes is (Some line) (chosen, line_is, are_read) =
     subst (λ (l : CommandLine). IsSaid arguments (Some l)) (sym line_is)
-    (options_said_by (codes "run") arguments rest items (options_of settings) are takes are_read.read are_read.lawful)
+    (options_said_by (codes "run") arguments rest items (options_of chosen) are takes are_read.read are_read.lawful)
 verb_answer arguments rest runs items are takes is None read = none_said arguments runs items is (λ (options, says).
     let found = run_is_found arguments options says in
     let same = same_items arguments (runs, found.0) (runs, items) found.1 is in
     read options (subst (λ (c : Command). AreRead (rows_at c.1) options) same found.2.read) found.2.lawful)
-verb_answer arguments rest soaks items are takes is (Some line) (settings, seed, count, line_is, are_read, numbers) =
+verb_answer arguments rest soaks items are takes is (Some line) (chosen, seed, count, line_is, are_read, numbers) =
     subst (λ (l : CommandLine). IsSaid arguments (Some l)) (sym line_is)
-    (soak_said_by arguments rest items (options_of settings) seed count are takes are_read.read are_read.lawful numbers)
+    (soak_said_by arguments rest items (options_of chosen) seed count are takes are_read.read are_read.lawful numbers)
 verb_answer arguments rest soaks items are takes is None read =
     none_said arguments soaks items is (λ (options, seed, count, says).
     let found = soak_is_found arguments options seed count says in
     let same = same_items arguments (soaks, found.0) (soaks, items) found.1 is in
     read options seed count (subst (λ (c : Command). AreRead (rows_at c.1) options) same found.2.read) found.2.lawful
     (subst (λ (c : Command). AreSoakNumbers (rows_at c.1) seed count) same found.3))
-verb_answer arguments rest images items are takes is (Some line) (settings, line_is, are_read) =
+verb_answer arguments rest images items are takes is (Some line) (chosen, line_is, are_read) =
     subst (λ (l : CommandLine). IsSaid arguments (Some l)) (sym line_is)
-    (options_said_by (codes "image") arguments rest items (options_of settings) are takes are_read.read are_read.lawful)
+    (options_said_by (codes "image") arguments rest items (options_of chosen) are takes are_read.read are_read.lawful)
 verb_answer arguments rest images items are takes is None read = none_said arguments images items is (λ (options, says).
     let found = image_is_found arguments options says in
     let same = same_items arguments (images, found.0) (images, items) found.1 is in
@@ -330,9 +330,9 @@ budgets_are rows budgets read =
       compact = compact i;
     }
 
--- the settings that rows say
-settings_at : List Row → Settings
-settings_at rows = record {
+-- the options that rows say
+chosen_at : List Row → code.Options
+chosen_at rows = record {
   limit = number_at (codes "limit") defaults.limit rows;
   segment = number_at (codes "segment") defaults.segment rows;
   b0 = (budgets_at rows).b0;
@@ -343,13 +343,13 @@ settings_at rows = record {
   large = number_at (codes "large") defaults.large rows;
 }
 
-settings_are : (rows : List Row) (settings : Settings) → AreSettingsRead rows settings → settings ≡ settings_at rows
-unfolding settings_at number_at
-settings_are rows settings are =
-    let limit = number_is _ settings.limit are.read.limit in
-    let segment = number_is _ settings.segment are.read.segment in
-    let budgets = budgets_are rows (budgets_of (options_of settings)) are.read.budgets in
-    let large = number_is _ settings.large are.read.large in
+chosen_are : (rows : List Row) (chosen : code.Options) → AreOptionsRead rows chosen → chosen ≡ chosen_at rows
+unfolding chosen_at number_at
+chosen_are rows chosen are =
+    let limit = number_is _ chosen.limit are.read.limit in
+    let segment = number_is _ chosen.segment are.read.segment in
+    let budgets = budgets_are rows (budgets_of (options_of chosen)) are.read.budgets in
+    let large = number_is _ chosen.large are.read.large in
     λ i. record {
       limit = limit i;
       segment = segment i;
@@ -366,18 +366,18 @@ place_at name rows = unwrap_or (option_and_then number_in (first_of name rows)) 
 
 -- the command line that is found
 line_of : Verb → List Row → CommandLine
-line_of runs rows = Run (settings_at rows)
-line_of soaks rows = Soak (settings_at rows) (place_at (codes "SEED") rows) (place_at (codes "N") rows)
-line_of images rows = Image (settings_at rows)
+line_of runs rows = Run (chosen_at rows)
+line_of soaks rows = Soak (chosen_at rows) (place_at (codes "SEED") rows) (place_at (codes "N") rows)
+line_of images rows = Image (chosen_at rows)
 line_of inspects rows = Inspect
 line_of migrates rows = Migrate
 line_of opens rows = Open (budgets_at rows)
 
-soak_is : (rows : List Row) (settings : Settings) (seed count : ℕ) → AreSettingsRead rows settings
-    → AreSoakNumbers rows seed count → Soak settings seed count ≡ line_of soaks rows
+soak_is : (rows : List Row) (chosen : code.Options) (seed count : ℕ) → AreOptionsRead rows chosen
+    → AreSoakNumbers rows seed count → Soak chosen seed count ≡ line_of soaks rows
 unfolding line_of place_at
-soak_is rows settings seed count are numbers =
-    let same = settings_are rows settings are in
+soak_is rows chosen seed count are numbers =
+    let same = chosen_are rows chosen are in
     let seeds = ap (λ (o : Option ℕ). unwrap_or o 0) (sym numbers.seed_is) in
     let counts = ap (λ (o : Option ℕ). unwrap_or o 0) (sym numbers.count_is) in
     λ i. Soak (same i) (seeds i) (counts i)
@@ -386,15 +386,15 @@ soak_is rows settings seed count are numbers =
 said_is : (arguments : List Text) (line : CommandLine) → IsSaid arguments (Some line)
     → (v : Verb) × (items : Items) × (parsed arguments ≡ Some (v, items)) × (line ≡ line_of v (rows_at items))
 unfolding line_of
-said_is arguments (Run settings) says =
-    let found = run_is_found arguments (options_of settings) says in
-    (runs, found.0, found.1, ap (λ (s : Settings). Run s) (settings_are (rows_at found.0) settings found.2))
-said_is arguments (Soak settings seed count) says =
-    let found = soak_is_found arguments (options_of settings) seed count says in
-    (soaks, found.0, found.1, soak_is (rows_at found.0) settings seed count found.2 found.3)
-said_is arguments (Image settings) says =
-    let found = image_is_found arguments (options_of settings) says in
-    (images, found.0, found.1, ap (λ (s : Settings). Image s) (settings_are (rows_at found.0) settings found.2))
+said_is arguments (Run chosen) says =
+    let found = run_is_found arguments (options_of chosen) says in
+    (runs, found.0, found.1, ap (λ (o : code.Options). Run o) (chosen_are (rows_at found.0) chosen found.2))
+said_is arguments (Soak chosen seed count) says =
+    let found = soak_is_found arguments (options_of chosen) seed count says in
+    (soaks, found.0, found.1, soak_is (rows_at found.0) chosen seed count found.2 found.3)
+said_is arguments (Image chosen) says =
+    let found = image_is_found arguments (options_of chosen) says in
+    (images, found.0, found.1, ap (λ (o : code.Options). Image o) (chosen_are (rows_at found.0) chosen found.2))
 said_is arguments Inspect says = (inspects, [], alone_is_found inspects (λ rest. refl) arguments says, refl)
 said_is arguments Migrate says = (migrates, [], alone_is_found migrates (λ rest. refl) arguments says, refl)
 said_is arguments (Open budgets) (path, says) =
@@ -411,10 +411,10 @@ said_once arguments a b first second =
 
 said_or_nothing : (arguments : List Text) (line : CommandLine) → IsSaid arguments (Some line)
     → SaysNothing arguments → ⊥
-said_or_nothing arguments (Run settings) says nothing = nothing.no_run (options_of settings) says
-said_or_nothing arguments (Soak settings seed count) says nothing =
-    nothing.no_soak (options_of settings) seed count says
-said_or_nothing arguments (Image settings) says nothing = nothing.no_image (options_of settings) says
+said_or_nothing arguments (Run chosen) says nothing = nothing.no_run (options_of chosen) says
+said_or_nothing arguments (Soak chosen seed count) says nothing =
+    nothing.no_soak (options_of chosen) seed count says
+said_or_nothing arguments (Image chosen) says nothing = nothing.no_image (options_of chosen) says
 said_or_nothing arguments Inspect says nothing = nothing.no_inspect says
 said_or_nothing arguments Migrate says nothing = nothing.no_migrate says
 said_or_nothing arguments (Open budgets) (path, says) nothing = nothing.no_open budgets path says
@@ -431,19 +431,19 @@ one_thing arguments None None first second = refl
 pub run_answered : (arguments : List Text) (options : Options) → SaysRun arguments options → (line : Option CommandLine)
     → IsSaid arguments line → HasOptions Run options line
 run_answered arguments options says line is =
-    (settings_with options, one_thing arguments line (Some (Run (settings_with options))) is says, refl)
+    (chosen_with options, one_thing arguments line (Some (Run (chosen_with options))) is says, refl)
 
 pub soak_answered : (arguments : List Text) (options : Options) (seed count : ℕ) → SaysSoak arguments options seed count
     → (line : Option CommandLine) → IsSaid arguments line
-    → HasOptions (λ settings. Soak settings seed count) options line
+    → HasOptions (λ chosen. Soak chosen seed count) options line
 soak_answered arguments options seed count says line is =
-    (settings_with options, one_thing arguments line (Some (Soak (settings_with options) seed count)) is says, refl)
+    (chosen_with options, one_thing arguments line (Some (Soak (chosen_with options) seed count)) is says, refl)
 
 pub image_answered : (arguments : List Text) (options : Options) → SaysImage arguments options
     → (line : Option CommandLine)
     → IsSaid arguments line → HasOptions Image options line
 image_answered arguments options says line is =
-    (settings_with options, one_thing arguments line (Some (Image (settings_with options))) is says, refl)
+    (chosen_with options, one_thing arguments line (Some (Image (chosen_with options))) is says, refl)
 
 -- ---- the path
 

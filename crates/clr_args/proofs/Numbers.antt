@@ -10,7 +10,7 @@ use Rattle.clr_nums.specs.declared.read.NumFault.{NumFault}
 use Rattle.clr_nums.specs.declared.read.NumFault.TheVariants.{NotNumber, TooLarge}
 use Rattle.clr_nums.proofs.DecimalText.{is_decimal_form-decimal, value-decimal, decimal-value}
 use Rattle.clr_args.specs.Grammar.{Text}
-use Rattle.clr_args.specs.Reading.{number_in}
+use Rattle.clr_args.specs.Reading.{number_in, number_or}
 
 abbrev by : Bool → ℕ → Option ℕ
 by form value = if form && nat_lt value (2 ^ 64) then Some value else None
@@ -41,3 +41,11 @@ number_read text (Err NotNumber) value small form large = sym (ap (λ b. by b (d
 number_read text (Err TooLarge) value small form large =
     sym (ap₂ (λ a b. if a && b then Some (digits_value 10 text) else None) (large.0 refl).0
     (le-ltb (digits_value 10 text) (2 ^ 64) (large.0 refl).1))
+
+-- what is read beside a default is what is read beside an equal one
+pub some_read : (text : Option Text) (a b n : ℕ) → a ≡ b → Some n ≡ number_or a text → number_or b text ≡ Some n
+some_read text a b n same is = sym (is ∙ ap (λ (d : ℕ). number_or d text) same)
+
+pub none_read : (text : Option Text) (a b n : ℕ) → a ≡ b → None ≡ number_or a text → number_or b text ≡ Some n → ⊥
+none_read text a b n same none is =
+    let e : None ≡ Some n = none ∙ (ap (λ (d : ℕ). number_or d text) same ∙ is) in absurd cc

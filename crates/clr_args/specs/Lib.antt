@@ -2,6 +2,5 @@ pub mod Budgets
 pub mod Grammar
 pub mod Parser
 pub mod Reading
-pub mod Settings
 pub mod CommandLines
 pub mod Laws

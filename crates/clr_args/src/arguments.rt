@@ -75,7 +75,7 @@ impl Arguments {
         ensures run { (options : Options) → SaysRun self.now options
             → IfOk result (λ line. HasOptions Run options line) }
         ensures soak { (options : Options) (seed count : ℕ) → SaysSoak self.now options seed count
-            → IfOk result (λ line. HasOptions (λ settings. Soak settings seed count) options line) }
+            → IfOk result (λ line. HasOptions (λ chosen. Soak chosen seed count) options line) }
         ensures image { (options : Options) → SaysImage self.now options
             → IfOk result (λ line. HasOptions Image options line) }
         ensures inspect { SaysInspect self.now → IfOk result (λ line. line ≡ Some Inspect) }

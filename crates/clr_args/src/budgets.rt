@@ -6,8 +6,9 @@ ghost use Rattle.clr_args.specs.Budgets.{AreLawfulBudgets};
 ghost use Rattle.clr_args.specs.Reading.{AreBudgetsRead};
 ghost use Rattle.clr_args.specs.declared.budgets.Budgets.{Budgets};
 
-use crate::settings::{GIBIBYTE, option};
+use crate::options::option;
 use clap::ArgMatches;
+use clr_options::{GIBIBYTE, Options};
 
 /// What a script runs with where an image says the rest: budgets in bytes, and a percentage.
 #[derive(Clone, Copy, Debug, PartialEq, Eq)]
@@ -46,11 +47,12 @@ impl Budgets {
         ensures none { IsNone result → (budgets : Budgets) → AreBudgetsRead (rows_of (found_of found.now)) budgets
             → ⊥ }
     {
-        let b0 = option(found, "b0", 262_144)?;
-        let b1 = option(found, "b1", 1_048_576)?;
-        let b2 = option(found, "b2", 4_194_304)?;
-        let bl = option(found, "bl", 4_194_304)?;
-        let compact = option(found, "compact", 50)?;
+        let defaults = Options::defaults();
+        let b0 = option(found, "b0", defaults.b0)?;
+        let b1 = option(found, "b1", defaults.b1)?;
+        let b2 = option(found, "b2", defaults.b2)?;
+        let bl = option(found, "bl", defaults.bl)?;
+        let compact = option(found, "compact", defaults.compact)?;
         Some(Budgets {
             b0,
             b1,

@@ -8,9 +8,10 @@ ghost use Rattle.clr_args.specs.declared.command_line.CommandLine.TheVariants.{I
 
 use crate::NoMemory;
 use crate::budgets::Budgets;
+use crate::options::{place, read_options};
 use crate::parser::parse;
-use crate::settings::{Settings, place};
 use clap::ArgMatches;
+use clr_options::Options;
 use std::alloc::Global;
 
 /// The greatest number of lines that a script is generated with.
@@ -20,18 +21,18 @@ const LINES: u64 = 1_000_000;
 #[derive(Clone, Copy, Debug, PartialEq, Eq)]
 pub enum CommandLine {
     /// A script is run.
-    Run(Settings),
+    Run(Options),
     /// A script is generated from the seed, with so many lines, and is run.
     Soak {
         /// What it runs with.
-        settings: Settings,
+        options: Options,
         /// Where its random numbers begin.
         seed: u32,
         /// How many lines are drawn.
         count: u32,
     },
     /// A script is run, and the heap that it leaves is saved.
-    Image(Settings),
+    Image(Options),
     /// What an image holds is shown.
     Inspect,
     /// An image is written in the newest form.
@@ -109,14 +110,14 @@ fn read_matches(matches: &ArgMatches<'_>) -> Option<CommandLine>
 fn read_run(found: &ArgMatches<'_>) -> Option<CommandLine>
     ensures { IsReadWith Run (rows_of (found_of found.now)) result }
 {
-    Some(CommandLine::Run(Settings::read(found)?))
+    Some(CommandLine::Run(read_options(found)?))
 }
 
 // What is said behind `image`.
 fn read_image(found: &ArgMatches<'_>) -> Option<CommandLine>
     ensures { IsReadWith Image (rows_of (found_of found.now)) result }
 {
-    Some(CommandLine::Image(Settings::read(found)?))
+    Some(CommandLine::Image(read_options(found)?))
 }
 
 // What is said behind `open`.
@@ -130,12 +131,12 @@ fn read_open(found: &ArgMatches<'_>) -> Option<CommandLine>
 fn read_soak(found: &ArgMatches<'_>) -> Option<CommandLine>
     ensures { IsSoakRead (rows_of (found_of found.now)) result }
 {
-    let settings = Settings::read(found)?;
+    let options = read_options(found)?;
     let seed = place(found, "SEED")?;
     let count = place(found, "N")?;
     if seed <= u64::from(u32::MAX) && 1 <= count && count <= LINES {
         Some(CommandLine::Soak {
-            settings,
+            options,
             seed: seed as u32,
             count: count as u32,
         })

@@ -6,11 +6,10 @@ mod budgets;
 mod command_line;
 pub mod laws;
 mod no_memory;
+mod options;
 mod parser;
-mod settings;
 
 pub use arguments::Arguments;
 pub use budgets::Budgets;
 pub use command_line::CommandLine;
 pub use no_memory::NoMemory;
-pub use settings::Settings;

@@ -22,11 +22,11 @@ ghost use Rattle.clr_survivors.specs.Survivors.{HasObjects, HaveMoved, world_of}
 ghost use Rattle.clr_collect.specs.Collecting.{BlockingStart, CountsSlides, HasMarkedAlive, HasMarkedKept};
 ghost use Rattle.clr_collect.specs.Released.{HasReleased};
 
+use crate::collector::CollectorState;
 use crate::deciding::compacts;
-use crate::judging::leave_kept;
+use crate::judging::process_references;
 use crate::releasing::release_empty;
 use crate::sliding::slide_and_release;
-use crate::workshop::Workshop;
 use clr_compact::Slides;
 use clr_ctx::YoungItems;
 use clr_evacuate::fit_and_move;
@@ -75,7 +75,7 @@ pub fn collect(
     types: &Types,
     space: &mut Space,
     roots: &mut Roots,
-    workshop: &mut Workshop,
+    collector: &mut CollectorState,
     threshold: u64,
     g: u8,
     how: How,
@@ -87,51 +87,51 @@ pub fn collect(
     requires unmarked { IsUnmarked types.now space.old.heap }
     requires world { (m : Machine) × IsWorldOf (world_of types.now space.old.heap roots.old) m × IsPlaceNamed m
         × (lowest_in_step m ≡ None) }
-    requires ready { IsReadyFor roots.old.handles workshop.old.pins }
+    requires ready { IsReadyFor roots.old.handles collector.old.pins }
     ensures collected { (m : Machine) → IsWorldOf (world_of types.now space.old.heap roots.old) m → IsPlaceNamed m
-        → lowest_in_step m ≡ None → m.compacts_large ≡ workshop.old.compacts_large → m.options.compact ≡ threshold
+        → lowest_in_step m ≡ None → m.compacts_large ≡ collector.old.compacts_large → m.options.compact ≡ threshold
         → (after : Machine) × (c : Collects m g how result after)
         × IsWorldOf (world_of types.now space.new.heap roots.new) (picture after)
-        × CountsSlides how (collection.begun m).layout c.collects.survive c.collects.moves result workshop.old.slides
-        workshop.new.slides }
-    ensures flag { workshop.new.compacts_large ≡ workshop.old.compacts_large && not (g == 2) }
+        × CountsSlides how (collection.begun m).layout c.collects.survive c.collects.moves result collector.old.slides
+        collector.new.slides }
+    ensures flag { collector.new.compacts_large ≡ collector.old.compacts_large && not (g == 2) }
     ensures tidy { IsTidy types.now space.new }
     ensures unmarked { IsUnmarked types.now space.new.heap }
-    ensures index { IsIndex types.now space.new.heap workshop.new.young }
+    ensures index { IsIndex types.now space.new.heap collector.new.young }
     ensures limit { space.new.heap.limit ≡ space.old.heap.limit }
-    ensures marker { workshop.new.marker ≡ record workshop.old.marker { stack = []; ranges = []; oldest = g } }
-    ensures index_after { MatchBool result.compacted (workshop.new.young ≡ None) (workshop.new.young ≡ Some []) }
+    ensures marker { collector.new.marker ≡ record collector.old.marker { stack = []; ranges = []; oldest = g } }
+    ensures index_after { MatchBool result.compacted (collector.new.young ≡ None) (collector.new.young ≡ Some []) }
     ensures spare { roots.old.finals.spare ≤ roots.new.finals.spare }
     ensures none_added { roots.new.finals.spare + length roots.new.finals.entries
         ≤ roots.old.finals.spare + length roots.old.finals.entries }
-    ensures ready { IsReadyFor roots.new.handles workshop.new.pins }
-    ensures room { workshop.new.pins.spare ≡ workshop.old.pins.spare }
+    ensures ready { IsReadyFor roots.new.handles collector.new.pins }
+    ensures room { collector.new.pins.spare ≡ collector.old.pins.spare }
 {
     mark_kept(
         types,
         space,
         roots,
-        &mut workshop.marker,
-        &mut workshop.young,
+        &mut collector.marker,
+        &mut collector.young,
         g,
     );
     if !compacts(&space.heap, types, g, how, threshold) {
         let swept = sweep(&mut space.heap, types, &mut space.bricks, g);
-        slide_and_release(types, space, roots, workshop, g);
-        workshop.young.forget();
+        slide_and_release(types, space, roots, collector, g);
+        collector.young.forget();
         return answer(g, false, false, swept);
     }
     let tally = move_kept(
         types,
         space,
         roots,
-        &mut workshop.pins,
-        &mut workshop.slides,
+        &mut collector.pins,
+        &mut collector.slides,
         g,
         how,
     );
-    slide_and_release(types, space, roots, workshop, g);
-    workshop.young.lose();
+    slide_and_release(types, space, roots, collector, g);
+    collector.young.lose();
     answer(g, true, is_fit(how), tally)
 }
 
@@ -251,7 +251,7 @@ fn mark_kept(
         ≤ roots.old.finals.spare + length roots.old.finals.entries }
 {
     mark_alive(types, space, roots, marker, young, g);
-    leave_kept(
+    process_references(
         types,
         &mut space.heap,
         marker,

@@ -26,8 +26,8 @@ ghost use Rattle.clr_collect.specs.Collecting.{HasMarkedAlive, HasMarkedKept, La
 ghost use Rattle.clr_collect.specs.Ending.{HasSweptRest};
 
 use crate::collecting::{answer, give_up_contexts, release_after};
-use crate::judging::leave_kept;
-use crate::workshop::Workshop;
+use crate::collector::CollectorState;
+use crate::judging::process_references;
 use clr_bgmark::Background;
 use clr_ctx::YoungItems;
 use clr_generations::Space;
@@ -60,7 +60,7 @@ pub fn end_background(
     types: &Types,
     space: &mut Space,
     roots: &mut Roots,
-    workshop: &mut Workshop,
+    collector: &mut CollectorState,
     background: &mut Background,
 ) -> Collected
     requires tidy { IsTidy types.now space.old }
@@ -81,10 +81,10 @@ pub fn end_background(
     ensures background { background.new ≡ record { running = false; shades = []; gray = 0; parts = []; fronts = [] } }
     ensures tidy { IsTidy types.now space.new }
     ensures unmarked { IsUnmarked types.now space.new.heap }
-    ensures index { IsIndex types.now space.new.heap workshop.new.young }
+    ensures index { IsIndex types.now space.new.heap collector.new.young }
     ensures limit { space.new.heap.limit ≡ space.old.heap.limit }
-    ensures workshop { workshop.new ≡ record workshop.old {
-      marker = record workshop.old.marker { stack = []; ranges = []; oldest = 2 };
+    ensures collector { collector.new ≡ record collector.old {
+      marker = record collector.old.marker { stack = []; ranges = []; oldest = 2 };
       young = Some [];
     } }
     ensures locals { roots.new.locals ≡ roots.old.locals }
@@ -93,9 +93,9 @@ pub fn end_background(
         ≤ roots.old.finals.spare + length roots.old.finals.entries }
     ensures pinned { pinned_in roots.new.handles ≡ pinned_in roots.old.handles }
 {
-    let swept = sweep_rest(types, space, roots, workshop, background);
+    let swept = sweep_rest(types, space, roots, collector, background);
     release_after(types, space, 2);
-    workshop.young.forget();
+    collector.young.forget();
     Collected {
         background: true,
         ..answer(2, false, false, swept)
@@ -108,7 +108,7 @@ fn sweep_rest(
     types: &Types,
     space: &mut Space,
     roots: &mut Roots,
-    workshop: &mut Workshop,
+    collector: &mut CollectorState,
     background: &mut Background,
 ) -> Tally
     requires tidy { IsTidy types.now space.old }
@@ -132,9 +132,9 @@ fn sweep_rest(
       parts = [];
       fronts = [];
     } }
-    ensures workshop { workshop.new ≡ record workshop.old {
-      marker = record workshop.old.marker { stack = []; ranges = []; oldest = 2 };
-      young = workshop.new.young;
+    ensures collector { collector.new ≡ record collector.old {
+      marker = record collector.old.marker { stack = []; ranges = []; oldest = 2 };
+      young = collector.new.young;
     } }
     ensures locals { roots.new.locals ≡ roots.old.locals }
     ensures spare { roots.old.finals.spare ≤ roots.new.finals.spare }
@@ -150,19 +150,19 @@ fn sweep_rest(
         roots.finals.entries(),
     );
     if found && background.has_same_segments(&space.heap) {
-        sweep_behind_fronts(types, space, roots, workshop, background)
+        sweep_behind_fronts(types, space, roots, collector, background)
     } else {
-        sweep_unmarked(types, space, roots, workshop, background)
+        sweep_unmarked(types, space, roots, collector, background)
     }
 }
 
-// The same where all that the last pause keeps is found, and what handles and entries name, too: neither they nor the
-// queue change.
+// Sweeps by bits what the last pause doesn't keep, where all that it keeps is found so, and what handles and entries
+// refer to, too: neither they nor the queue change.
 fn sweep_behind_fronts(
     types: &Types,
     space: &mut Space,
     roots: &Roots,
-    workshop: &mut Workshop,
+    collector: &mut CollectorState,
     background: &mut Background,
 ) -> Tally
     requires tidy { IsTidy types.now space.old }
@@ -189,14 +189,14 @@ fn sweep_behind_fronts(
       parts = [];
       fronts = [];
     } }
-    ensures workshop { workshop.new ≡ record workshop.old {
-      marker = record workshop.old.marker { stack = []; ranges = []; oldest = 2 };
-      young = workshop.new.young;
+    ensures collector { collector.new ≡ record collector.old {
+      marker = record collector.old.marker { stack = []; ranges = []; oldest = 2 };
+      young = collector.new.young;
     } }
 {
     let _ = roots;
-    give_up_contexts(types, space, &mut workshop.young);
-    workshop.marker.begin(2);
+    give_up_contexts(types, space, &mut collector.young);
+    collector.marker.begin(2);
     background.settle(&space.heap, types);
     background.mark_behind(&mut space.heap, types);
     let swept = sweep_behind(
@@ -209,12 +209,12 @@ fn sweep_behind_fronts(
     swept
 }
 
-// The same by marks in the heap, whatever is found.
+// Sweeps by marks in the heap what the last pause doesn't keep, whatever is found.
 fn sweep_unmarked(
     types: &Types,
     space: &mut Space,
     roots: &mut Roots,
-    workshop: &mut Workshop,
+    collector: &mut CollectorState,
     background: &mut Background,
 ) -> Tally
     requires tidy { IsTidy types.now space.old }
@@ -233,9 +233,9 @@ fn sweep_unmarked(
       parts = [];
       fronts = [];
     } }
-    ensures workshop { workshop.new ≡ record workshop.old {
-      marker = record workshop.old.marker { stack = []; ranges = []; oldest = 2 };
-      young = workshop.new.young;
+    ensures collector { collector.new ≡ record collector.old {
+      marker = record collector.old.marker { stack = []; ranges = []; oldest = 2 };
+      young = collector.new.young;
     } }
     ensures locals { roots.new.locals ≡ roots.old.locals }
     ensures spare { roots.old.finals.spare ≤ roots.new.finals.spare }
@@ -246,8 +246,8 @@ fn sweep_unmarked(
         types,
         space,
         roots,
-        &mut workshop.marker,
-        &mut workshop.young,
+        &mut collector.marker,
+        &mut collector.young,
         background,
     );
     sweep(&mut space.heap, types, &mut space.bricks, 2)
@@ -280,7 +280,7 @@ fn mark_found_kept(
         ≤ roots.old.finals.spare + length roots.old.finals.entries }
 {
     mark_found_alive(types, space, roots, marker, young, background);
-    leave_kept(
+    process_references(
         types,
         &mut space.heap,
         marker,

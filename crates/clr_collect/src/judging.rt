@@ -24,7 +24,7 @@ use clr_view::{is_suppressed, set_suppressed};
 // Goes on where what is alive before finalisation is marked, and no more: judges the entries, marks what the woken ones
 // reach, and clears the handles of what isn't reached. Then what a collection keeps is marked, and handles and entries
 // are as it leaves them.
-pub(crate) fn leave_kept(
+pub(crate) fn process_references(
     types: &Types,
     heap: &mut Heap,
     marker: &mut Marker,
@@ -46,7 +46,7 @@ pub(crate) fn leave_kept(
         → AreTablesOf types.now heap.old cards bricks → AreTablesOf types.now heap.new cards bricks }
 {
     let waiting = finals.ready().len();
-    judge_entries(types, heap, marker, finals);
+    scan_finalizers(types, heap, marker, finals);
     clear_short(types, heap, marker, handles);
     marker.mark_more(heap, types, handles, &finals.ready()[waiting..]);
     clear_long_and_dependent(types, heap, marker, handles);
@@ -57,7 +57,7 @@ pub(crate) fn leave_kept(
 // so no more.
 //
 // An object may have several entries, so all are judged before a flag is cleared.
-fn judge_entries(types: &Types, heap: &mut Heap, marker: &Marker, finals: &mut Finals)
+fn scan_finalizers(types: &Types, heap: &mut Heap, marker: &Marker, finals: &mut Finals)
     requires heap { IsHeap heap.old }
     requires held { IsHeld types.now heap.old }
     requires entries { AllStand types.now heap.old finals.old.entries }

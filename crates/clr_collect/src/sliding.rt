@@ -16,7 +16,7 @@ ghost use Rattle.clr_survivors.specs.Survivors.{world_of};
 ghost use Rattle.clr_collect.specs.Released.{HasObjects};
 
 use crate::collecting::release_after;
-use crate::workshop::Workshop;
+use crate::collector::CollectorState;
 use clr_generations::Space;
 use clr_pinq::PinQueue;
 use clr_survivors::{Roots, slide_large_heap};
@@ -28,7 +28,7 @@ pub(crate) fn slide_and_release(
     types: &Types,
     space: &mut Space,
     roots: &mut Roots,
-    workshop: &mut Workshop,
+    collector: &mut CollectorState,
     g: u8,
 )
     requires tidy { IsTidy types.now space.old }
@@ -36,26 +36,26 @@ pub(crate) fn slide_and_release(
     requires unmarked { IsUnmarked types.now space.old.heap }
     requires world { (n : Machine) × IsWorldOf (world_of types.now space.old.heap roots.old) n × IsPlaceNamed n }
     requires occupied { g ≡ 2 → HasObjects types.now space.old.heap }
-    requires ready { IsReadyFor roots.old.handles workshop.old.pins }
+    requires ready { IsReadyFor roots.old.handles collector.old.pins }
     ensures ended { (n : Machine) → IsWorldOf (world_of types.now space.old.heap roots.old) n → IsPlaceNamed n
-        → (slid : Machine) × SlidesIf (workshop.old.compacts_large && (g == 2)) n slid
+        → (slid : Machine) × SlidesIf (collector.old.compacts_large && (g == 2)) n slid
         × IsWorldOf (world_of types.now space.new.heap roots.new) (ended g (picture slid)) }
-    ensures workshop { workshop.new ≡ record workshop.old {
-      pins = workshop.new.pins;
-      compacts_large = workshop.old.compacts_large && not (g == 2);
+    ensures collector { collector.new ≡ record collector.old {
+      pins = collector.new.pins;
+      compacts_large = collector.old.compacts_large && not (g == 2);
     } }
     ensures tidy { IsTidy types.now space.new }
     ensures unmarked { IsUnmarked types.now space.new.heap }
     ensures limit { space.new.heap.limit ≡ space.old.heap.limit }
     ensures index { space.old.heap.start0 ≡ tail_of space.old.heap → IsIndex types.now space.new.heap (Some []) }
-    ensures ready { IsReadyFor roots.new.handles workshop.new.pins }
-    ensures room { workshop.new.pins.spare ≡ workshop.old.pins.spare }
+    ensures ready { IsReadyFor roots.new.handles collector.new.pins }
+    ensures room { collector.new.pins.spare ≡ collector.old.pins.spare }
     ensures numbers { KeepsNumbers roots.old roots.new }
 {
-    let slides = is_due(workshop.compacts_large, g);
-    slide_if(types, space, roots, &mut workshop.pins, slides);
+    let slides = is_due(collector.compacts_large, g);
+    slide_if(types, space, roots, &mut collector.pins, slides);
     release_after(types, space, g);
-    put_down(&mut workshop.compacts_large, g);
+    put_down(&mut collector.compacts_large, g);
 }
 
 // Whether a collection of generation `g` slides the large heap.

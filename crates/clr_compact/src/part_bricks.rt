@@ -85,7 +85,7 @@ pub(crate) fn enter_parts(
     }
 }
 
-// The same for the ephemeral segment alone.
+// Clears the marks of the items of the ephemeral segment's part, and enters its bricks anew.
 fn enter_young_part(
     heap: &mut Heap,
     types: &Types,

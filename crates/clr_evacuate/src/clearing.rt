@@ -33,7 +33,8 @@ pub(crate) fn clear_forwards(heap: &mut Heap, types: &Types)
     clear_between(heap, types, k, start1, start0);
 }
 
-// The same for those of segment `k` from `from` to `end`, and for no others but the last item that begins below that.
+// Takes the forwards away from the free items of segment `k` from `from` to `end`, and from no others but the last item
+// that begins below that.
 fn clear_between(heap: &mut Heap, types: &Types, k: usize, from: u64, end: u64)
     requires heap { IsHeap heap.old }
     requires held { IsHeld types.now heap.old }
@@ -49,7 +50,7 @@ fn clear_between(heap: &mut Heap, types: &Types, k: usize, from: u64, end: u64)
     }
 }
 
-// The same for the item at `place` of segment `k`, where that is free. Answers the item's size.
+// Takes the forward away from the item at `place` of segment `k`, where that is free. Answers the item's size.
 fn clear_item(heap: &mut Heap, types: &Types, k: usize, place: u64) -> u64
     requires heap { IsHeap heap.old }
     requires held { IsHeld types.now heap.old }

@@ -46,7 +46,8 @@ pub(crate) fn forward_slots(heap: &mut Heap, types: &Types, cards: &mut Cards)
     }
 }
 
-// The same for the references of segment `k`.
+// Forwards the references of the objects of segment `k`, dead ones too, and sets the cards of slots that name an object
+// of a lower generation then.
 fn forward_segment(heap: &mut Heap, types: &Types, cards: &mut Cards, k: usize)
     requires heap { IsHeap heap.old }
     requires held { IsHeld types.now heap.old }
@@ -64,7 +65,7 @@ fn forward_segment(heap: &mut Heap, types: &Types, cards: &mut Cards, k: usize)
     }
 }
 
-// The same for those of the item at `place` of segment `k`. Answers the item's size.
+// Forwards the references of the item at `place` of segment `k`. Answers the item's size.
 fn forward_item(heap: &mut Heap, types: &Types, cards: &mut Cards, k: usize, place: u64) -> u64
     requires heap { IsHeap heap.old }
     requires held { IsHeld types.now heap.old }
@@ -87,7 +88,7 @@ fn forward_item(heap: &mut Heap, types: &Types, cards: &mut Cards, k: usize, pla
     found.size
 }
 
-// The same for those of an object.
+// Forwards the references of an object.
 fn forward_object(heap: &mut Heap, types: &Types, cards: &mut Cards, found: &Item)
     requires heap { IsHeap heap.old }
     requires held { IsHeld types.now heap.old }
@@ -105,7 +106,7 @@ fn forward_object(heap: &mut Heap, types: &Types, cards: &mut Cards, found: &Ite
     }
 }
 
-// The same where they are one run.
+// Forwards the references of an object, where they are one run of words.
 fn forward_run(heap: &mut Heap, types: &Types, cards: &mut Cards, found: &Item, run: ReferenceRun)
     requires heap { IsHeap heap.old }
     requires held { IsHeld types.now heap.old }
@@ -123,7 +124,7 @@ fn forward_run(heap: &mut Heap, types: &Types, cards: &mut Cards, found: &Item, 
     }
 }
 
-// The same, whatever they are. It stands apart, since most objects have one run.
+// Forwards the references of an object, whatever they are. It stands apart, since most objects have one run.
 #[inline(never)]
 fn forward_references(heap: &mut Heap, types: &Types, cards: &mut Cards, found: &Item)
     requires heap { IsHeap heap.old }
@@ -141,7 +142,7 @@ fn forward_references(heap: &mut Heap, types: &Types, cards: &mut Cards, found: 
     }
 }
 
-// The same for the one at an offset. It writes nothing where no word and no card changes.
+// Forwards the reference of an object at an offset. It writes nothing where no word and no card changes.
 fn forward_slot(heap: &mut Heap, types: &Types, cards: &mut Cards, found: &Item, offset: u64)
     requires heap { IsHeap heap.old }
     requires held { IsHeld types.now heap.old }

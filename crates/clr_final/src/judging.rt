@@ -13,19 +13,19 @@ impl Finals {
         requires { MayAsk 0 self.old.entries (λ place. F.pre judge place) }
         ensures { HasJudged (λ place verdict. F.post judge place verdict) 0 self.old self.new }
     {
-        self.judge_entries(0, &judge);
+        self.scan_finalizers(0, &judge);
     }
 
-    /// The same where all objects below `low` are known to be alive, and aren't asked of.
+    /// Judges the entries, as `dead` does, where all objects below `low` are known to be alive, and aren't asked of.
     pub fn dead_from<F: Fn(u64) -> Verdict>(&mut self, low: u64, judge: F)
         requires { MayAsk low self.old.entries (λ place. F.pre judge place) }
         ensures { HasJudged (λ place verdict. F.post judge place verdict) low self.old self.new }
     {
-        self.judge_entries(low, &judge);
+        self.scan_finalizers(low, &judge);
     }
 
     // Sorts the entries behind the settled ones by their verdicts.
-    fn judge_entries<F: Fn(u64) -> Verdict>(&mut self, low: u64, judge: &F)
+    fn scan_finalizers<F: Fn(u64) -> Verdict>(&mut self, low: u64, judge: &F)
         requires { MayAsk low self.old.entries (λ place. F.pre judge.now place) }
         ensures { HasJudged (λ place verdict. F.post judge.now place verdict) low self.old self.new }
     {

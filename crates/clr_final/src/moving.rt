@@ -15,7 +15,8 @@ impl Finals {
         self.follow(0, &to);
     }
 
-    /// The same where all objects below `low` are known to stay, and aren't asked of.
+    /// Gives both lists the new places of their objects, where all objects below `low` are known to stay, and aren't
+    /// asked of.
     pub fn relocate_from<F: Fn(u64) -> u64>(&mut self, low: u64, to: F)
         requires entries { MayAsk low self.old.entries (λ place. F.pre to place) }
         requires ready { MayAsk low self.old.ready (λ place. F.pre to place) }

@@ -14,7 +14,7 @@ ghost use Rattle.clr_large.specs.Births.{HasNewbornIn};
 ghost use Rattle.clr_large.specs.Places.{address_of, IsKindIndex, IsListed, IsLowest, IsOldKind, IsPlace, items_left};
 ghost use Rattle.clr_large.specs.Searches.{first_of_kind};
 
-use crate::births::bear_at;
+use crate::births::allocate_at;
 use crate::listing::list_of_kind;
 use crate::places::{Birthplace, first_tail, first_walked, lower};
 use clr_bricks::Bricks;
@@ -102,7 +102,7 @@ impl KindItems {
     ///
     /// `None`, and nothing changes, exactly where it fits in no free item of such a segment and behind the end of none.
     #[inline(never)]
-    pub fn bear(
+    pub fn allocate(
         &mut self,
         heap: &mut Heap,
         types: &Types,
@@ -135,7 +135,7 @@ impl KindItems {
     {
         let size = types.item_size(t, len);
         let found = self.lowest_place(heap, types, kind, size)?;
-        let place = self.bear_placed(heap, types, kind, found, t, len);
+        let place = self.allocate_placed(heap, types, kind, found, t, len);
         enter_old_newborn(bricks, place, size);
         Some(place)
     }
@@ -182,7 +182,7 @@ impl KindItems {
     }
 
     // Makes the object at a place in which it fits, and takes that place from the index.
-    fn bear_placed(
+    fn allocate_placed(
         &mut self,
         heap: &mut Heap,
         types: &Types,
@@ -206,7 +206,7 @@ impl KindItems {
         if self.complete {
             take_place(&mut self.items, &place, size);
         }
-        bear_at(heap, types, kind, place, t, len)
+        allocate_at(heap, types, kind, place, t, len)
     }
 }
 

@@ -8,7 +8,7 @@ ghost use Rattle.clr_opened.specs.Opened.{opened, options_with};
 ghost use Rattle.clr_open.specs.Fit.{AreLawfulBudgets, budgets_of, IsFit, IsUnfitAt};
 ghost use Rattle.clr_open.specs.Read.{IsRead, StandsAs};
 ghost use Rattle.clr_open.specs.declared.opening.OpenFault.TheVariants.{BadImage, Unfit};
-ghost use Rattle.clr_runtime.specs.Options as runtime;
+ghost use Rattle.clr_options.specs.Options as runtime;
 ghost use Rattle.clr_runtime.specs.RuntimeView.{StandsFor};
 
 use crate::begun::{begun_again, open_fronts};

@@ -13,7 +13,7 @@ ghost use Rattle.clr_moves.specs.declared.condemned.Condemned.TheVariants.{Large
 ghost use Rattle.clr_plan.specs.Pinned.{TellsPins};
 ghost use Rattle.clr_plan.specs.Planned.{HasPlanned, pinned_marked};
 
-use crate::whole_parts::lay_whole;
+use crate::whole_parts::plan_whole;
 use clr_bricks::Bricks;
 use clr_heap::Heap;
 use clr_moves::{Condemned, next_part};
@@ -50,6 +50,6 @@ pub fn plan_large(heap: &mut Heap, types: &Types, bricks: &mut Bricks, pins: &mu
 {
     let count = heap.segments();
     if next_part(heap, Condemned::LargeSegments, 0) < count {
-        let _ = lay_whole(heap, types, bricks, pins, Condemned::LargeSegments, count);
+        let _ = plan_whole(heap, types, bricks, pins, Condemned::LargeSegments, count);
     }
 }

@@ -17,7 +17,7 @@ ghost use Rattle.clr_plan.specs.Planned.{HasPlanned, pinned_marked};
 ghost use Rattle.clr_moves.specs.declared.condemned.Condemned.TheVariants.{Generations};
 
 use crate::counts::Counts;
-use crate::heaps::{entries_at, lay_ephemeral, lay_lower};
+use crate::heaps::{entries_at, plan_ephemeral, plan_lower};
 use clr_bricks::Bricks;
 use clr_heap::Heap;
 use clr_moves::{Condemned, Planned, part_start};
@@ -71,8 +71,8 @@ pub fn plan(
     let e = heap.ephemeral();
     let low = part_start(heap, Condemned::Generations(g), e);
     let (below, first) = entries_at(heap, bricks, e, low);
-    let lower = lay_lower(heap, types, bricks, pins, e, low, g);
-    let (start1, start0, counts) = lay_ephemeral(heap, types, bricks, pins, lower.at, e, low, g);
+    let lower = plan_lower(heap, types, bricks, pins, e, low, g);
+    let (start1, start0, counts) = plan_ephemeral(heap, types, bricks, pins, lower.at, e, low, g);
     let planned = Planned {
         start1,
         start0,

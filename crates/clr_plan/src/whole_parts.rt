@@ -9,7 +9,7 @@ ghost use Rattle.clr_plan.specs.States.{state};
 ghost use Rattle.clr_plan.specs.WholeParts.{AreLaidWhole, CanLayWhole, Wholes};
 
 use crate::counts::Counts;
-use crate::lay::{Laid, lay_segment};
+use crate::parts::{Laid, plan_segment};
 use crate::pointer::Pointer;
 use clr_bricks::Bricks;
 use clr_heap::Heap;
@@ -19,7 +19,7 @@ use clr_types::{FIRST_OFFSET, Types};
 
 /// Lays the parts of the `count` lowest segments, each of which is a whole segment. It answers the pointer behind them,
 /// and how many objects stand in them.
-pub fn lay_whole(
+pub fn plan_whole(
     heap: &mut Heap,
     types: &Types,
     bricks: &mut Bricks,
@@ -37,7 +37,7 @@ pub fn lay_whole(
     let mut counts = Counts::none();
     for k in 0..count {
         if takes_part(parts, heap.info(k)) {
-            let laid = lay_segment(heap, types, bricks, queue, at, k);
+            let laid = plan_segment(heap, types, bricks, queue, at, k);
             at = laid.at;
             counts = counts.plus(laid.counts);
         }

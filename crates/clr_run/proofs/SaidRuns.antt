@@ -1,17 +1,15 @@
 -- What arguments say, from the command that they were read as.
 use Rattle.std.proofs.Common.{◌≡◌, ◌≢◌, ◌∙◌, ◌⊎◌, ℕ, List, Option, Some, None, sym, ap, inl, inr, subst}
 use Rattle.clr_model.specs.Machine.{Options}
-use Rattle.clr_runtime.specs.Options.{options_of as made_with}
-use Rattle.clr_runtime.specs.declared.options.Options as runtime
+use Rattle.clr_options.specs.Options.{options_of}
+use Rattle.clr_options.specs.declared.options.Options as code
 use Rattle.clr_args.specs.Budgets as said
 use Rattle.clr_args.specs.CommandLines.{IsSaid}
 use Rattle.clr_args.specs.Grammar.{SaysInspect, SaysMigrate, SaysOpen, Text}
-use Rattle.clr_args.specs.Settings.{options_of}
 use Rattle.clr_args.specs.declared.budgets.Budgets.{Budgets}
 use Rattle.clr_args.specs.declared.command_line.CommandLine.{CommandLine}
 use Rattle.clr_args.specs.declared.command_line.CommandLine.TheVariants.{Image, Inspect, Migrate, Open, Run}
 use Rattle.clr_args.specs.declared.command_line.CommandLine.TheVariants.{Soak}
-use Rattle.clr_args.specs.declared.settings.Settings.{Settings}
 use Rattle.clr_open.specs.Fit.{AreLawfulBudgets, budgets_of}
 use Rattle.clr_open.specs.declared.budgets.Budgets as opening
 use Rattle.clr_opened.specs.Opened as machine
@@ -20,67 +18,64 @@ use Rattle.clr_run.specs.Opens.{budgets_with}
 
 -- a command that runs a script, with these options
 abbrev pub IsRunWith : Options → Option CommandLine → Type 0
-IsRunWith options line = (settings : Settings) × (line ≡ Some (Run settings)) × (options_of settings ≡ options)
+IsRunWith options line = (chosen : code.Options) × (line ≡ Some (Run chosen)) × (options_of chosen ≡ options)
 
 -- one that runs a generated script
 abbrev pub IsSoakWith : Options → ℕ → ℕ → Option CommandLine → Type 0
 IsSoakWith options seed count line =
-    (settings : Settings) × (line ≡ Some (Soak settings seed count)) × (options_of settings ≡ options)
+    (chosen : code.Options) × (line ≡ Some (Soak chosen seed count)) × (options_of chosen ≡ options)
 
-same_run : (a b : Settings) → Some (Run a) ≡ Some (Run b) → a ≡ b
+same_run : (a b : code.Options) → Some (Run a) ≡ Some (Run b) → a ≡ b
 same_run a b e = cc
 
--- the options of a script are those of the settings
-pub run_options : (options : Options) (line : Option CommandLine) (settings : Settings) (made : runtime.Options)
-    → line ≡ Some (Run settings) → made_with made ≡ options_of settings → IsRunWith options line
-    → options ≡ made_with made
-run_options options line settings made is made_is (other, says, options_are) =
-    sym (made_is ∙ (ap options_of (same_run settings other (sym is ∙ says)) ∙ options_are))
+-- a script runs with the options that the arguments say
+pub run_options : (options : Options) (line : Option CommandLine) (chosen : code.Options)
+    → line ≡ Some (Run chosen) → IsRunWith options line → options ≡ options_of chosen
+run_options options line chosen is (other, says, options_are) =
+    sym (ap options_of (same_run chosen other (sym is ∙ says)) ∙ options_are)
 
 -- a command that makes an image, with these options
 abbrev pub IsImageWith : Options → Option CommandLine → Type 0
-IsImageWith options line = (settings : Settings) × (line ≡ Some (Image settings)) × (options_of settings ≡ options)
+IsImageWith options line = (chosen : code.Options) × (line ≡ Some (Image chosen)) × (options_of chosen ≡ options)
 
-same_image : (a b : Settings) → Some (Image a) ≡ Some (Image b) → a ≡ b
+same_image : (a b : code.Options) → Some (Image a) ≡ Some (Image b) → a ≡ b
 same_image a b e = cc
 
--- and so are those of an image
-pub image_options : (options : Options) (line : Option CommandLine) (settings : Settings) (made : runtime.Options)
-    → line ≡ Some (Image settings) → made_with made ≡ options_of settings → IsImageWith options line
-    → options ≡ made_with made
-image_options options line settings made is made_is (other, says, options_are) =
-    sym (made_is ∙ (ap options_of (same_image settings other (sym is ∙ says)) ∙ options_are))
+-- and so does one whose image is made
+pub image_options : (options : Options) (line : Option CommandLine) (chosen : code.Options)
+    → line ≡ Some (Image chosen) → IsImageWith options line → options ≡ options_of chosen
+image_options options line chosen is (other, says, options_are) =
+    sym (ap options_of (same_image chosen other (sym is ∙ says)) ∙ options_are)
 
-pub record IsSaidSoak (options : Options) (made : runtime.Options)
+pub record IsSaidSoak (options : Options) (chosen : code.Options)
     (seed other_seed count other_count : ℕ) : Type 0 where
-  pub options_are : options ≡ made_with made
+  pub options_are : options ≡ options_of chosen
   pub seed_is : seed ≡ other_seed
   pub count_is : count ≡ other_count
 
-same_soak : (a b : Settings) (seed count other_seed other_count : ℕ)
+same_soak : (a b : code.Options) (seed count other_seed other_count : ℕ)
     → Some (Soak a seed count) ≡ Some (Soak b other_seed other_count) → a ≡ b
 same_soak a b seed count other_seed other_count e = cc
 
-same_seed : (a b : Settings) (seed count other_seed other_count : ℕ)
+same_seed : (a b : code.Options) (seed count other_seed other_count : ℕ)
     → Some (Soak a seed count) ≡ Some (Soak b other_seed other_count) → seed ≡ other_seed
 same_seed a b seed count other_seed other_count e = cc
 
-same_count : (a b : Settings) (seed count other_seed other_count : ℕ)
+same_count : (a b : code.Options) (seed count other_seed other_count : ℕ)
     → Some (Soak a seed count) ≡ Some (Soak b other_seed other_count) → count ≡ other_count
 same_count a b seed count other_seed other_count e = cc
 
--- and so are those of a generated script, with its seed and its count of lines
-pub soak_options : (options : Options) (line : Option CommandLine) (settings : Settings) (made : runtime.Options)
-    (seed other_seed count other_count : ℕ) → line ≡ Some (Soak settings other_seed other_count)
-    → made_with made ≡ options_of settings → IsSoakWith options seed count line
-    → IsSaidSoak options made seed other_seed count other_count
-soak_options options line settings made seed other_seed count other_count is made_is (other, says, options_are) =
-    let same : Some (Soak other seed count) ≡ Some (Soak settings other_seed other_count) = sym says ∙ is in
+-- and so does a generated script, with its seed and its count of lines
+pub soak_options : (options : Options) (line : Option CommandLine) (chosen : code.Options)
+    (seed other_seed count other_count : ℕ) → line ≡ Some (Soak chosen other_seed other_count)
+    → IsSoakWith options seed count line → IsSaidSoak options chosen seed other_seed count other_count
+soak_options options line chosen seed other_seed count other_count is (other, says, options_are) =
+    let same : Some (Soak other seed count) ≡ Some (Soak chosen other_seed other_count) = sym says ∙ is in
     record {
-      options_are = sym (made_is
-          ∙ (ap options_of (sym (same_soak other settings seed count other_seed other_count same)) ∙ options_are));
-      seed_is = same_seed other settings seed count other_seed other_count same;
-      count_is = same_count other settings seed count other_seed other_count same;
+      options_are = sym (ap options_of (sym (same_soak other chosen seed count other_seed other_count same))
+          ∙ options_are);
+      seed_is = same_seed other chosen seed count other_seed other_count same;
+      count_is = same_count other chosen seed count other_seed other_count same;
     }
 
 -- the arguments say one command
@@ -113,11 +108,11 @@ same_open : (a b : Budgets) → Some (Open a) ≡ Some (Open b) → a ≡ b
 same_open a b e = cc
 
 -- a run goes on from an image with the budgets that the arguments say
-pub open_budgets : (budgets settings : Budgets) (line : Option CommandLine) (made : opening.Budgets)
-    → line ≡ Some (Open settings) → budgets_of made ≡ budgets_with settings → line ≡ Some (Open budgets)
+pub open_budgets : (budgets read : Budgets) (line : Option CommandLine) (made : opening.Budgets)
+    → line ≡ Some (Open read) → budgets_of made ≡ budgets_with read → line ≡ Some (Open budgets)
     → budgets_with budgets ≡ budgets_of made
-open_budgets budgets settings line made is made_is says =
-    sym (made_is ∙ ap budgets_with (same_open settings budgets (sym is ∙ says)))
+open_budgets budgets read line made is made_is says =
+    sym (made_is ∙ ap budgets_with (same_open read budgets (sym is ∙ says)))
 
 -- what is said of budgets is lawful of those with which a run goes on
 pub lawful_with : (budgets : Budgets) (made : machine.Budgets) → made ≡ budgets_with budgets

@@ -5,11 +5,9 @@ ghost use Rattle.clr_model.specs.Machine.{Machine, Options};
 ghost use Rattle.clr_model.specs.LineGrammar.{script_lines, ended_lines};
 ghost use Rattle.clr_model.specs.Run.{opening};
 ghost use Rattle.clr_runtime.specs.RuntimeView.{StandsFor};
-ghost use Rattle.clr_runtime.specs.Options.{options_of};
 ghost use Rattle.clr_image.specs.Texts.{Inspected, Migrated};
 ghost use Rattle.clr_args.specs.Grammar.{SaysImage, SaysInspect, SaysMigrate, SaysNothing, SaysOpen, SaysRun, SaysSoak};
 ghost use Rattle.clr_args.specs.Grammar.{Text};
-ghost use Rattle.clr_args.specs.Settings as settings_said;
 ghost use Rattle.clr_args.specs.declared.budgets.Budgets as budgets_said;
 ghost use Rattle.clr_streams.specs.Faults.{Rose, Appended};
 ghost use Rattle.clr_session.specs.Progress.{Answered, CutShort};
@@ -22,28 +20,12 @@ ghost use Rattle.clr_run.specs.Opens.{budgets_with, Opens};
 
 use crate::making::image_source;
 use crate::opening::open_source;
-use clr_args::{Arguments, Budgets, CommandLine, Settings};
+use clr_args::{Arguments, Budgets, CommandLine};
 use clr_image_io::{IMAGE_LIMIT, inspect_source, migrate_source};
 use clr_runtime::Runtime;
 use clr_session::{SCRIPT_LIMIT, run_source, soak};
 use clr_streams::{Sink, Source, Status};
 use std::alloc::Global;
-
-// What a runtime is made with where the arguments say these settings.
-fn options_from(settings: Settings) -> clr_runtime::Options
-    ensures { options_of result ≡ settings_said.options_of settings }
-{
-    clr_runtime::Options {
-        limit: settings.limit,
-        segment: settings.segment,
-        b0: settings.b0,
-        b1: settings.b1,
-        b2: settings.b2,
-        bl: settings.bl,
-        compact: settings.compact,
-        large: settings.large,
-    }
-}
 
 // What a run goes on with from an image where the arguments say these budgets.
 fn budgets_from(budgets: Budgets) -> clr_open::Budgets
@@ -88,7 +70,7 @@ pub fn run<I: Source, S: Source, K: Sink>(
         × (S.held source.new ≡ Some [])
         × IsSomeAnd end_state.new (λ runtime. StandsFor runtime last)) }
 
-    // The same where the source doesn't tell its bytes, of some bytes.
+    // Where the source doesn't tell its bytes, the replies are those to some bytes, which were taken from it.
     ensures done { (options : Options) → SaysRun arguments.now options → result ≡ Status.Done → (taken : List ℕ)
         × (answered : Answered (opening options) script_lines
         (S.held source.old) (S.held source.new) (K.written sink.old) (K.written sink.new) taken)
@@ -192,17 +174,13 @@ pub fn run<I: Source, S: Source, K: Sink>(
         return Status::Usage;
     };
     match command {
-        CommandLine::Run(settings) => {
-            run_source(alloc, options_from(settings), source, sink, end_state)
-        }
+        CommandLine::Run(options) => run_source(alloc, options, source, sink, end_state),
         CommandLine::Soak {
-            settings,
+            options,
             seed,
             count,
-        } => soak(alloc, options_from(settings), seed, count, sink, end_state),
-        CommandLine::Image(settings) => {
-            image_source(alloc, options_from(settings), source, sink, end_state)
-        }
+        } => soak(alloc, options, seed, count, sink, end_state),
+        CommandLine::Image(options) => image_source(alloc, options, source, sink, end_state),
         CommandLine::Inspect => inspect_source(alloc, source, sink),
         CommandLine::Migrate => migrate_source(alloc, source, sink),
         CommandLine::Open(budgets) => {

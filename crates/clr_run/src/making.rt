@@ -3,7 +3,7 @@ ghost use Rattle.std.specs.Prelude.{◌≡◌, ◌≢◌, ◌⊎◌, Err, IfOk, 
 ghost use Rattle.clr_model.specs.Lawful.{AreLawfulOptions, IsPlaceNamed};
 ghost use Rattle.clr_format.specs.Saved.{image_bytes};
 ghost use Rattle.clr_model.specs.Machine.{Machine};
-ghost use Rattle.clr_runtime.specs.Options.{options_of};
+ghost use Rattle.clr_options.specs.Options.{options_of};
 ghost use Rattle.clr_runtime.specs.RuntimeView.{StandsFor};
 ghost use Rattle.clr_save.specs.SavedImages.{IsImageOf};
 ghost use Rattle.clr_save.specs.Snapshots as snapshots;

@@ -136,7 +136,7 @@ module _ (group : SegKind) (old : IsOldKind group) (p : Parts) (is : IsRuntime p
     tables = tables;
     owed = is.owed;
     finalizers = is.finalizers;
-    index = index_kept young_items p.types p.types p.space.heap new p.workshop.young
+    index = index_kept young_items p.types p.types p.space.heap new p.collector.young
         (ap young_items layout ∙ young_with_segment group old (layout_in p.types p.space.heap) reserved) is.index;
     large = index_kept (kind_items Large) p.types p.types p.space.heap new p.large (items Large) is.large;
     pinned = index_kept (kind_items Pinned) p.types p.types p.space.heap new p.pinned (items Pinned) is.pinned;

@@ -230,7 +230,7 @@ module _ (p : Parts) (is : IsRuntime p) where
           free_heads = is.shown.free_heads;
           clean = is.shown.clean;
           sound = subst IsPlaceNamed (sym begun_seen)
-              (remarked_place_named (seen p) is.shown.sound p.workshop.compacts_large (Some (marking_by v.shades))
+              (remarked_place_named (seen p) is.shown.sound p.collector.compacts_large (Some (marking_by v.shades))
               (begun_lawful (seen p) (marking_by v.shades) is_begun));
           marked = λ running. begun_marked;
         };
@@ -405,7 +405,7 @@ module _ (p : Parts) (is : IsRuntime p) where
             free_heads = is.shown.free_heads;
             clean = is.shown.clean;
             sound = subst IsPlaceNamed (sym scanned_seen)
-                (remarked_place_named (seen p) is.shown.sound p.workshop.compacts_large (Some (marking_by v.shades))
+                (remarked_place_named (seen p) is.shown.sound p.collector.compacts_large (Some (marking_by v.shades))
                 (scans_lawful (seen p) n (marking_by old_shades) scanned (marking_by v.shades)
                 (subst (λ r. IfSome r (IsLawfulMarking (seen p))) runs_seen is.shown.sound.lawful.marking) scans_seen));
             marked = λ running. scanned_marked;

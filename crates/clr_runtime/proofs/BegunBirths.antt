@@ -24,7 +24,7 @@ use Rattle.clr_safe.proofs.Entries.{owed-no_more, owed-one_more}
 use Rattle.clr_view.specs.World.{World}
 use Rattle.clr_runtime.specs.Births.{IsMeasured, Measured}
 use Rattle.clr_runtime.specs.Checks.{thread_refusal}
-use Rattle.clr_runtime.specs.Options.{options_of}
+use Rattle.clr_options.specs.Options.{options_of}
 use Rattle.clr_runtime.specs.Outcomes.{refusal_of_room}
 use Rattle.clr_runtime.specs.Rooms.{attempt_of}
 use Rattle.clr_runtime.specs.RuntimeView.{ahead_of, IsRuntime, IsShown, IsToldBy, seen, sums_of, world_of}

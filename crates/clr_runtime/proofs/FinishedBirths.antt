@@ -25,7 +25,7 @@ use Rattle.clr_view.specs.Clean.{AreClean}
 use Rattle.clr_view.specs.Marks.{IsUnmarked}
 use Rattle.clr_view.specs.View.{AreFreeHeads, HasNewborn}
 use Rattle.clr_view.specs.World.{World}
-use Rattle.clr_runtime.specs.Options.{options_of}
+use Rattle.clr_options.specs.Options.{options_of}
 use Rattle.clr_runtime.specs.RuntimeView.{ahead_of, IsRuntime, IsShown, seen, sums_of, world_of}
 use Rattle.clr_runtime.specs.Shown.{shown}
 use Rattle.clr_runtime.specs.declared.parts.Parts.{Parts}

@@ -15,7 +15,7 @@ use Rattle.clr_safe.specs.Threads.{begun_by, Threads}
 use Rattle.clr_safe.specs.declared.begun.Begun.TheVariants.{Nothing, Store}
 use Rattle.clr_safe.proofs.Entries.{owed-no_more}
 use Rattle.clr_view.specs.SlotValues.{IsObjectAt, IsSlot}
-use Rattle.clr_runtime.specs.Options.{options_of}
+use Rattle.clr_options.specs.Options.{options_of}
 use Rattle.clr_runtime.specs.RuntimeView.{ahead_of, IsRuntime, IsShown, seen, sums_of, world_of}
 use Rattle.clr_runtime.specs.declared.parts.Parts.{Parts}
 use Rattle.clr_runtime.proofs.BegunStores.{finished_tables, store-step}

@@ -92,7 +92,7 @@ module _ {w : World} {sums : Sums} {options : Options} {threads : Threads} {ahea
 abbrev pub relaid_parts : Parts → HeapView → Option (List Piece) → Parts
 relaid_parts p heap index = record p {
   space = record p.space { heap = heap };
-  workshop = record p.workshop { young = index };
+  collector = record p.collector { young = index };
 }
 
 module _ (p : Parts) (is : IsRuntime p) (t size : ℕ) (low : 0 < t) (high : t ≤ 16)
@@ -101,7 +101,7 @@ module _ (p : Parts) (is : IsRuntime p) (t size : ℕ) (low : 0 < t) (high : t �
   -- A refill gives the thread a new context, or nothing has changed. What holds of a runtime holds of its parts.
   pub refill_answers : (r : Option (Unit {0}))
       → (r ≡ None → (has_room (layout_in p.types p.space.heap) size ≡ false) × (mid ≡ p.space.heap)
-      × (index ≡ p.workshop.young))
+      × (index ≡ p.collector.young))
       → IfSome r (λ _. HasRefilled p.types p.space.heap mid t size) → IsIndex p.types mid index
       → IsRefill p (relaid_parts p mid index) t size (is_some r) × IsRuntime (relaid_parts p mid index)
   refill_answers None none some listed =

@@ -87,7 +87,7 @@ module _ (p : Parts) (is : IsRuntime p) (bare : p.space.heap.rests ≡ no_rests)
       → AreTablesOf p.types new cards bricks
       → IsRuntime (record p {
         space = record p.space { heap = new; cards = cards; bricks = bricks };
-        workshop = record p.workshop { young = Some [] };
+        collector = record p.collector { young = Some [] };
       })
   sealed_kept cards bricks heap words held unmarked heads clean tables = record {
     shown = record {

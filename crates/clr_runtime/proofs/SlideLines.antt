@@ -100,7 +100,7 @@ slide_asked s t run = line_follows_done s (slide_of t) run tt refl _ _ (refl, re
 
 -- a runtime whose next full collection slides is one still
 pub slide_kept : (p : Parts) (t : ℕ) → MayRun (seen p) t → IsRuntime p
-    → IsRuntime (record p { workshop = record p.workshop { compacts_large = true } })
+    → IsRuntime (record p { collector = record p.collector { compacts_large = true } })
 slide_kept p t run is = record {
   shown = record {
     locals = is.shown.locals;
@@ -111,7 +111,7 @@ slide_kept p t run is = record {
     sound =
         follows_sound (seen p) (compact_large_once t) (answered Done) _ is.shown.sound (slide_asked (seen p) t run);
     marked =
-        same_marked (seen p) (seen (record p { workshop = record p.workshop { compacts_large = true } })) refl refl
+        same_marked (seen p) (seen (record p { collector = record p.collector { compacts_large = true } })) refl refl
         refl p.background is.shown.marked;
   };
   heap = is.heap;

@@ -25,7 +25,7 @@ use Rattle.clr_model.specs.Outcomes.{answered}
 use Rattle.clr_model.specs.Run.{Follows}
 use Rattle.clr_model.proofs.LineChecks.{MayRun}
 use Rattle.clr_model.proofs.SeenStands.{follows_sound}
-use Rattle.clr_runtime.specs.Options.{options_of}
+use Rattle.clr_options.specs.Options.{options_of}
 use Rattle.clr_runtime.specs.RuntimeView.{ahead_of, IsBegunStore, IsRuntime, IsShown, IsToldBy, seen, sums_of}
 use Rattle.clr_runtime.specs.RuntimeView.{TellsFinalizer}
 use Rattle.clr_runtime.specs.RuntimeView.{world_of}

@@ -1,4 +1,3 @@
-pub mod Options
 pub mod Marked
 pub mod Shown
 pub mod RuntimeView

@@ -23,7 +23,7 @@ use Rattle.clr_safe.specs.Threads.{births_owed, steps_of, Threads}
 use Rattle.clr_safe.specs.declared.begun.Begun.{Begun}
 use Rattle.clr_safe.specs.declared.begun.Begun.TheVariants.{Birth, Nothing, Store}
 use Rattle.clr_large.specs.Places.{IsKindIndex}
-use Rattle.clr_runtime.specs.Options.{options_of}
+use Rattle.clr_options.specs.Options.{options_of}
 use Rattle.clr_runtime.specs.declared.parts.Parts.{Parts}
 use Rattle.clr_runtime.specs.declared.sums.Sums as code
 
@@ -57,7 +57,7 @@ world_of r = record {
 
 -- what the next full collection is to do
 abbrev pub ahead_of : Parts → Ahead
-ahead_of r = record { compacts_large = r.workshop.compacts_large; background = r.background }
+ahead_of r = record { compacts_large = r.collector.compacts_large; background = r.background }
 
 -- what a later one is to do, after a collection of generation g
 abbrev pub ahead_after : Ahead → ℕ → Ahead
@@ -77,7 +77,7 @@ pub record RuntimeView : Type 0 where
   pub stack : ℕ
 
 abbrev pub viewed : Parts → RuntimeView
-viewed r = record { machine = seen r; slides = r.workshop.slides; stack = r.workshop.marker.capacity }
+viewed r = record { machine = seen r; slides = r.collector.slides; stack = r.collector.marker.capacity }
 
 -- its machine stands for another one
 abbrev pub StandsFor : RuntimeView → Machine → Type 0
@@ -126,8 +126,8 @@ pub record IsRuntime (r : Parts) : Type 0 where
       (IsToldBy r.types r.space.heap r.space.cards r.safe)
   pub owed : births_owed r.safe ≤ r.roots.finals.spare
   pub finalizers : AllByRecursion (TellsFinalizer r.types) r.safe.begun
-  pub index : IsIndex r.types r.space.heap r.workshop.young
+  pub index : IsIndex r.types r.space.heap r.collector.young
   pub large : IsKindIndex Large r.types r.space.heap r.large
   pub pinned : IsKindIndex Pinned r.types r.space.heap r.pinned
   pub limit : r.space.heap.limit ≡ r.options.limit
-  pub ready : IsReadyFor r.roots.handles r.workshop.pins
+  pub ready : IsReadyFor r.roots.handles r.collector.pins

@@ -94,7 +94,7 @@ fn begin_marking(parts: &mut Parts) -> Result<(), NoMemory>
         × (seen parts.new ≡ record (seen parts.old) { background = Some marking })) }
     ensures err { OnErr result (seen parts.new ≡ seen parts.old) }
     ensures runtime { IsRuntime parts.new }
-    ensures workshop { parts.new.workshop ≡ parts.old.workshop }
+    ensures collector { parts.new.collector ≡ parts.old.collector }
 {
     parts.background.begin(
         &parts.space.heap,
@@ -113,7 +113,7 @@ fn scan_gray(parts: &mut Parts, n: u64) -> Progress
         × ScansUpTo (seen parts.old) n old result.scanned new × (result.gray ≡ length new.gray)
         × (seen parts.new ≡ record (seen parts.old) { background = Some new }) }
     ensures runtime { IsRuntime parts.new }
-    ensures workshop { parts.new.workshop ≡ parts.old.workshop }
+    ensures collector { parts.new.collector ≡ parts.old.collector }
 {
     parts.background.step(&parts.space.heap, &parts.types, n)
 }
@@ -126,14 +126,14 @@ fn end_marking(parts: &mut Parts) -> Collected
     ensures ended { (marking : Marking) × ((seen parts.old).background ≡ Some marking)
         × (after : Machine) × EndsBackground (seen parts.old) marking result after × (seen parts.new ≡ picture after) }
     ensures runtime { IsRuntime parts.new }
-    ensures slides { parts.new.workshop.slides ≡ parts.old.workshop.slides }
-    ensures stack { parts.new.workshop.marker.capacity ≡ parts.old.workshop.marker.capacity }
+    ensures slides { parts.new.collector.slides ≡ parts.old.collector.slides }
+    ensures stack { parts.new.collector.marker.capacity ≡ parts.old.collector.marker.capacity }
 {
     let collected = end_background(
         &parts.types,
         &mut parts.space,
         &mut parts.roots,
-        &mut parts.workshop,
+        &mut parts.collector,
         &mut parts.background,
     );
     parts.sums = parts

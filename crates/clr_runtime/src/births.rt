@@ -16,7 +16,7 @@ use crate::parts::Parts;
 use crate::rooms::{NoRoom, make_room};
 use crate::runtime::{LOCALS_OF_A_THREAD, Runtime};
 use clr_final::Finals;
-use clr_generations::bear;
+use clr_generations::allocate;
 use clr_heap::{AcquireFault, SegKind};
 use clr_model::Refusal;
 use clr_types::{TypeId, Types};
@@ -82,7 +82,7 @@ impl Runtime {
         self.new_known(t, local, name, None, len)
     }
 
-    /// The same, where the type of this name may be known.
+    /// Makes an object, as `new_object` does, where the type of this name may be known.
     #[inline(always)]
     pub fn new_known(
         &mut self,
@@ -137,15 +137,15 @@ fn make_small(parts: &mut Parts, t: u64, local: u64, request: Request) -> Result
     requires entry { request.finalizer ≡ true → births_owed parts.old.safe + 1 ≤ parts.old.roots.finals.spare }
     requires small { request.size < parts.old.options.large }
     ensures made { FollowsAsked parts.old parts.new t local request result }
-    ensures grew { result ≡ Err Refusal.Oom → Grew parts.old.workshop.slides parts.new.workshop.slides }
-    ensures stack { parts.new.workshop.marker.capacity ≡ parts.old.workshop.marker.capacity }
+    ensures grew { result ≡ Err Refusal.Oom → Grew parts.old.collector.slides parts.new.collector.slides }
+    ensures stack { parts.new.collector.marker.capacity ≡ parts.old.collector.marker.capacity }
     ensures runtime { IsRuntime parts.new }
 {
     let thread = t as usize;
     if let Err(why) = make_room(parts, thread, request.size) {
         return Err(refusal_of(why));
     }
-    let place = bear(
+    let place = allocate(
         &mut parts.space.heap,
         &parts.types,
         &mut parts.space.bricks,
@@ -170,14 +170,14 @@ fn make_large(parts: &mut Parts, t: u64, local: u64, request: Request) -> Result
     requires entry { request.finalizer ≡ true → births_owed parts.old.safe + 1 ≤ parts.old.roots.finals.spare }
     requires large { parts.old.options.large ≤ request.size }
     ensures made { FollowsAsked parts.old parts.new t local request result }
-    ensures grew { result ≡ Err Refusal.Oom → Grew parts.old.workshop.slides parts.new.workshop.slides }
-    ensures stack { parts.new.workshop.marker.capacity ≡ parts.old.workshop.marker.capacity }
+    ensures grew { result ≡ Err Refusal.Oom → Grew parts.old.collector.slides parts.new.collector.slides }
+    ensures stack { parts.new.collector.marker.capacity ≡ parts.old.collector.marker.capacity }
     ensures runtime { IsRuntime parts.new }
 {
     if let Err(why) = make_large_room(parts, request.size) {
         return Err(refusal_of(why));
     }
-    let Some(place) = parts.large.bear(
+    let Some(place) = parts.large.allocate(
         &mut parts.space.heap,
         &parts.types,
         &mut parts.space.bricks,
@@ -206,7 +206,7 @@ pub(crate) fn defined(types: &Types, name: &[u8]) -> Option<TypeId>
     }
 }
 
-// The same, where it may be known.
+// The type that a script defined under this name, where it may be known.
 #[inline(always)]
 fn defined_or_known(types: &Types, name: &[u8], known: Option<TypeId>) -> Option<TypeId>
     requires lawful { AllByRecursion IsLawfulRow types.now }

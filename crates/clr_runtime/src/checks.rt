@@ -27,7 +27,8 @@ impl Runtime {
         self.refused_beside(t)
     }
 
-    // The same of a thread that there is, where a thread has begun something or holds the others.
+    // Why a line of a thread that there is, and that finishes no step, is refused before it looks at anything, where a
+    // thread has begun something or holds the others.
     #[inline(never)]
     fn refused_beside(&self, t: u64) -> Option<Refusal>
         requires { is_thread t ≡ true }

@@ -63,7 +63,7 @@ impl Runtime {
     pub fn slides(&self) -> &Slides
         ensures { result.now ≡ self.now.slides }
     {
-        &self.parts.workshop.slides
+        &self.parts.collector.slides
     }
 }
 
@@ -81,17 +81,17 @@ pub(crate) fn collect_parts(parts: &mut Parts, g: u8, how: How) -> Collected
         × (seen parts.new ≡ picture after) }
     ensures no_contexts { parts.new.space.heap.rests ≡ no_rests }
     ensures runtime { IsRuntime parts.new }
-    ensures slides { CountsCollection result.compacted parts.old.workshop.slides parts.new.workshop.slides }
-    ensures moved { CountsMoves (seen parts.old) g how result (seen parts.new) parts.old.workshop.slides
-        parts.new.workshop.slides }
+    ensures slides { CountsCollection result.compacted parts.old.collector.slides parts.new.collector.slides }
+    ensures moved { CountsMoves (seen parts.old) g how result (seen parts.new) parts.old.collector.slides
+        parts.new.collector.slides }
     ensures spare { parts.old.roots.finals.spare ≤ parts.new.roots.finals.spare }
     ensures options { parts.new.options ≡ parts.old.options }
     ensures none_added { parts.new.roots.finals.spare + length parts.new.roots.finals.entries
         ≤ parts.old.roots.finals.spare + length parts.old.roots.finals.entries }
-    ensures pins_room { parts.new.workshop.pins.spare ≡ parts.old.workshop.pins.spare }
-    ensures stack { parts.new.workshop.marker.capacity ≡ parts.old.workshop.marker.capacity }
-    ensures index_after { MatchBool result.compacted (parts.new.workshop.young ≡ None)
-        (parts.new.workshop.young ≡ Some []) }
+    ensures pins_room { parts.new.collector.pins.spare ≡ parts.old.collector.pins.spare }
+    ensures stack { parts.new.collector.marker.capacity ≡ parts.old.collector.marker.capacity }
+    ensures index_after { MatchBool result.compacted (parts.new.collector.young ≡ None)
+        (parts.new.collector.young ≡ Some []) }
     ensures large_index { parts.new.large ≡ None }
     ensures pinned_index { parts.new.pinned ≡ None }
     ensures types { parts.new.types ≡ parts.old.types }
@@ -101,7 +101,7 @@ pub(crate) fn collect_parts(parts: &mut Parts, g: u8, how: How) -> Collected
         &parts.types,
         &mut parts.space,
         &mut parts.roots,
-        &mut parts.workshop,
+        &mut parts.collector,
         parts.options.compact,
         g,
         how,

@@ -50,8 +50,8 @@ impl Runtime {
         let other = held_by(&self.parts.roots.locals, t, second);
         match create_with_room(
             &mut self.parts.roots.handles,
-            &mut self.parts.workshop.pins,
-            &mut self.parts.workshop.marker,
+            &mut self.parts.collector.pins,
+            &mut self.parts.collector.marker,
             kind,
             target,
             other,

@@ -32,8 +32,8 @@ pub(crate) fn make_large_room(parts: &mut Parts, size: u64) -> Result<(), NoRoom
     ensures fits { OnOk result (has_room_in Large (seen parts.new).layout size ≡ true) }
     ensures err { OnErr result (FollowsLargeFails (seen parts.old) size (attempt_of result) (seen parts.new)) }
     ensures grew { result ≡ Err (NoRoom.Acquire AcquireFault.OverLimit)
-        → Grew parts.old.workshop.slides parts.new.workshop.slides }
-    ensures stack { parts.new.workshop.marker.capacity ≡ parts.old.workshop.marker.capacity }
+        → Grew parts.old.collector.slides parts.new.collector.slides }
+    ensures stack { parts.new.collector.marker.capacity ≡ parts.old.collector.marker.capacity }
     ensures runtime { IsRuntime parts.new }
     ensures spare { parts.old.roots.finals.spare ≤ parts.new.roots.finals.spare }
     ensures types { parts.new.types ≡ parts.old.types }
@@ -66,8 +66,8 @@ fn has_room_in_budget(parts: &mut Parts, size: u64) -> bool
     ensures place { result ≡ has_place_in_budget (seen parts.old) size }
     ensures seen { seen parts.new ≡ seen parts.old }
     ensures runtime { IsRuntime parts.new }
-    ensures slides { parts.new.workshop.slides ≡ parts.old.workshop.slides }
-    ensures stack { parts.new.workshop.marker.capacity ≡ parts.old.workshop.marker.capacity }
+    ensures slides { parts.new.collector.slides ≡ parts.old.collector.slides }
+    ensures stack { parts.new.collector.marker.capacity ≡ parts.old.collector.marker.capacity }
     ensures finals { parts.new.roots.finals ≡ parts.old.roots.finals }
     ensures types { parts.new.types ≡ parts.old.types }
     ensures safe { parts.new.safe ≡ parts.old.safe }
@@ -85,8 +85,8 @@ fn has_large_room(parts: &mut Parts, size: u64) -> bool
     ensures place { result ≡ has_room_in Large (seen parts.old).layout size }
     ensures seen { seen parts.new ≡ seen parts.old }
     ensures runtime { IsRuntime parts.new }
-    ensures slides { parts.new.workshop.slides ≡ parts.old.workshop.slides }
-    ensures stack { parts.new.workshop.marker.capacity ≡ parts.old.workshop.marker.capacity }
+    ensures slides { parts.new.collector.slides ≡ parts.old.collector.slides }
+    ensures stack { parts.new.collector.marker.capacity ≡ parts.old.collector.marker.capacity }
     ensures finals { parts.new.roots.finals ≡ parts.old.roots.finals }
     ensures types { parts.new.types ≡ parts.old.types }
     ensures safe { parts.new.safe ≡ parts.old.safe }

@@ -1,11 +1,11 @@
 //! The core that a script drives: one call for each line, each of them a step of the machine.
 #![tactic(auto)]
 
-pub use crate::options::Options;
 pub use crate::runtime::Runtime;
 pub use crate::standing::Standing;
 pub use clr_bgmark::Progress;
 pub use clr_mark::NoMemory;
+pub use clr_options::Options;
 
 mod background;
 mod births;
@@ -15,7 +15,6 @@ mod finalizers;
 mod handles;
 mod large;
 mod opening;
-mod options;
 mod parts;
 mod pinned;
 mod pinned_births;

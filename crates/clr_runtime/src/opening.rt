@@ -5,13 +5,12 @@ ghost use Rattle.clr_types.specs.Types.{TypeRow};
 ghost use Rattle.clr_heap.specs.View.{opening_heap};
 ghost use Rattle.clr_model.specs.Lawful.{AreLawfulOptions};
 ghost use Rattle.clr_generations.specs.Tables.{AreTablesOf};
-ghost use Rattle.clr_runtime.specs.Options.{options_of};
+ghost use Rattle.clr_options.specs.Options.{options_of};
 
 use crate::NoMemory;
-use crate::options::Options;
 use clr_bricks::Bricks;
 use clr_cards::Cards;
-use clr_collect::Workshop;
+use clr_collect::CollectorState;
 use clr_compact::Slides;
 use clr_ctx::YoungItems;
 use clr_final::Finals;
@@ -19,6 +18,7 @@ use clr_generations::{Space, cover_segments};
 use clr_handles::Handles;
 use clr_heap::Heap;
 use clr_mark::Marker;
+use clr_options::Options;
 use clr_pinq::PinQueue;
 use clr_survivors::Roots;
 use std::alloc::{AllocError, Global};
@@ -69,7 +69,7 @@ fn null_locals(alloc: Global, count: usize) -> Result<Vec<u64>, AllocError>
 
 // What collections work with, where so many objects have room on the stack of a marking: nothing is listed, saved or
 // counted, and the next full collection doesn't slide the large heap.
-pub(crate) fn first_workshop(alloc: Global, capacity: usize) -> Result<Workshop, NoMemory>
+pub(crate) fn first_collector(alloc: Global, capacity: usize) -> Result<CollectorState, NoMemory>
     requires { 1 ≤ capacity }
     ensures young { IfOk result (λ w. w.young ≡ Some []) }
     ensures saved { IfOk result (λ w. w.pins.entries ≡ []) }
@@ -83,7 +83,7 @@ pub(crate) fn first_workshop(alloc: Global, capacity: usize) -> Result<Workshop,
         drop(marker);
         return Err(NoMemory);
     };
-    Ok(Workshop {
+    Ok(CollectorState {
         marker,
         young: YoungItems::new(alloc),
         pins,

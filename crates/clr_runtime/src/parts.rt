@@ -1,10 +1,10 @@
 //! Everything that a runtime works on, as one plain struct.
-use crate::options::Options;
 use crate::sums::Sums;
 use clr_bgmark::Background;
-use clr_collect::Workshop;
+use clr_collect::CollectorState;
 use clr_generations::Space;
 use clr_large::KindItems;
+use clr_options::Options;
 use clr_safe::Safe;
 use clr_survivors::Roots;
 use clr_types::Types;
@@ -22,7 +22,7 @@ pub(crate) struct Parts {
     /// The index of free items of pinned segments.
     pub(crate) pinned: KindItems,
     pub(crate) roots: Roots,
-    pub(crate) workshop: Workshop,
+    pub(crate) collector: CollectorState,
     /// What threads have begun, and who holds them.
     pub(crate) safe: Safe,
     /// What a background collection knows that runs.

@@ -29,8 +29,8 @@ pub(crate) fn make_pinned_room(parts: &mut Parts, size: u64) -> Result<(), NoRoo
     ensures fits { OnOk result (has_room_in Pinned (seen parts.new).layout size ≡ true) }
     ensures err { OnErr result (FollowsPinnedFails (seen parts.old) size (attempt_of result) (seen parts.new)) }
     ensures grew { result ≡ Err (NoRoom.Acquire AcquireFault.OverLimit)
-        → Grew parts.old.workshop.slides parts.new.workshop.slides }
-    ensures stack { parts.new.workshop.marker.capacity ≡ parts.old.workshop.marker.capacity }
+        → Grew parts.old.collector.slides parts.new.collector.slides }
+    ensures stack { parts.new.collector.marker.capacity ≡ parts.old.collector.marker.capacity }
     ensures runtime { IsRuntime parts.new }
     ensures types { parts.new.types ≡ parts.old.types }
     ensures safe { parts.new.safe ≡ parts.old.safe }
@@ -60,8 +60,8 @@ fn find_or_acquire(parts: &mut Parts, size: u64) -> Result<(), AcquireFault>
     requires most { size ≤ 1073741824 }
     ensures room { IsPinnedRoom (seen parts.old) (seen parts.new) size result }
     ensures runtime { IsRuntime parts.new }
-    ensures slides { parts.new.workshop.slides ≡ parts.old.workshop.slides }
-    ensures stack { parts.new.workshop.marker.capacity ≡ parts.old.workshop.marker.capacity }
+    ensures slides { parts.new.collector.slides ≡ parts.old.collector.slides }
+    ensures stack { parts.new.collector.marker.capacity ≡ parts.old.collector.marker.capacity }
     ensures types { parts.new.types ≡ parts.old.types }
     ensures safe { parts.new.safe ≡ parts.old.safe }
 {
@@ -78,8 +78,8 @@ fn has_pinned_room(parts: &mut Parts, size: u64) -> bool
     ensures place { result ≡ has_room_in Pinned (seen parts.old).layout size }
     ensures seen { seen parts.new ≡ seen parts.old }
     ensures runtime { IsRuntime parts.new }
-    ensures slides { parts.new.workshop.slides ≡ parts.old.workshop.slides }
-    ensures stack { parts.new.workshop.marker.capacity ≡ parts.old.workshop.marker.capacity }
+    ensures slides { parts.new.collector.slides ≡ parts.old.collector.slides }
+    ensures stack { parts.new.collector.marker.capacity ≡ parts.old.collector.marker.capacity }
     ensures types { parts.new.types ≡ parts.old.types }
     ensures safe { parts.new.safe ≡ parts.old.safe }
 {

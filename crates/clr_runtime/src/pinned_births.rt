@@ -93,14 +93,14 @@ fn make_pinned(parts: &mut Parts, t: u64, local: u64, request: Request) -> Resul
     requires passed { thread_refusal (seen parts.old) t ≡ None }
     requires asked { IsAskedPinned parts.old.types local request }
     ensures made { FollowsAskedPinned parts.old parts.new t local request result }
-    ensures grew { result ≡ Err Refusal.Oom → Grew parts.old.workshop.slides parts.new.workshop.slides }
-    ensures stack { parts.new.workshop.marker.capacity ≡ parts.old.workshop.marker.capacity }
+    ensures grew { result ≡ Err Refusal.Oom → Grew parts.old.collector.slides parts.new.collector.slides }
+    ensures stack { parts.new.collector.marker.capacity ≡ parts.old.collector.marker.capacity }
     ensures runtime { IsRuntime parts.new }
 {
     if let Err(why) = make_pinned_room(parts, request.size) {
         return Err(refusal_of(why));
     }
-    let Some(place) = parts.pinned.bear(
+    let Some(place) = parts.pinned.allocate(
         &mut parts.space.heap,
         &parts.types,
         &mut parts.space.bricks,

@@ -46,8 +46,8 @@ pub(crate) fn make_room(parts: &mut Parts, thread: usize, size: u64) -> Result<(
     ensures room { FollowsRoom (seen parts.old) thread size (attempt_of result) (seen parts.new) }
     ensures fits { OnOk result (own_fits (seen parts.new).layout thread size ≡ true) }
     ensures grew { result ≡ Err (NoRoom.Acquire AcquireFault.OverLimit)
-        → Grew parts.old.workshop.slides parts.new.workshop.slides }
-    ensures stack { parts.new.workshop.marker.capacity ≡ parts.old.workshop.marker.capacity }
+        → Grew parts.old.collector.slides parts.new.collector.slides }
+    ensures stack { parts.new.collector.marker.capacity ≡ parts.old.collector.marker.capacity }
     ensures runtime { IsRuntime parts.new }
     ensures spare { parts.old.roots.finals.spare ≤ parts.new.roots.finals.spare }
     ensures types { parts.new.types ≡ parts.old.types }
@@ -60,7 +60,7 @@ pub(crate) fn make_room(parts: &mut Parts, thread: usize, size: u64) -> Result<(
     find_room(parts, thread, size)
 }
 
-// The same, where the size doesn't fit at the front of the context as it is.
+// Makes room of this size for a thread, as `make_room` does, where the size doesn't fit at the front of its context.
 #[cold]
 #[inline(never)]
 fn find_room(parts: &mut Parts, thread: usize, size: u64) -> Result<(), NoRoom>
@@ -75,8 +75,8 @@ fn find_room(parts: &mut Parts, thread: usize, size: u64) -> Result<(), NoRoom>
     ensures room { FollowsRoom (seen parts.old) thread size (attempt_of result) (seen parts.new) }
     ensures fits { OnOk result (own_fits (seen parts.new).layout thread size ≡ true) }
     ensures grew { result ≡ Err (NoRoom.Acquire AcquireFault.OverLimit)
-        → Grew parts.old.workshop.slides parts.new.workshop.slides }
-    ensures stack { parts.new.workshop.marker.capacity ≡ parts.old.workshop.marker.capacity }
+        → Grew parts.old.collector.slides parts.new.collector.slides }
+    ensures stack { parts.new.collector.marker.capacity ≡ parts.old.collector.marker.capacity }
     ensures runtime { IsRuntime parts.new }
     ensures spare { parts.old.roots.finals.spare ≤ parts.new.roots.finals.spare }
     ensures types { parts.new.types ≡ parts.old.types }
@@ -110,11 +110,11 @@ fn find_room(parts: &mut Parts, thread: usize, size: u64) -> Result<(), NoRoom>
 fn renew_index(parts: &mut Parts)
     requires { IsRuntime parts.old }
     ensures others { parts.new
-        ≡ record parts.old { workshop = record parts.old.workshop { young = parts.new.workshop.young } } }
+        ≡ record parts.old { collector = record parts.old.collector { young = parts.new.collector.young } } }
     ensures runtime { IsRuntime parts.new }
 {
     parts
-        .workshop
+        .collector
         .young
         .renew_lost(&parts.space.heap, &parts.types);
 }
@@ -129,8 +129,8 @@ fn collect_for_room(parts: &mut Parts, g: u8, how: How) -> Collected
         × (seen parts.new ≡ picture after) }
     ensures no_contexts { parts.new.space.heap.rests ≡ no_rests }
     ensures runtime { IsRuntime parts.new }
-    ensures slides { CountsCollection result.compacted parts.old.workshop.slides parts.new.workshop.slides }
-    ensures stack { parts.new.workshop.marker.capacity ≡ parts.old.workshop.marker.capacity }
+    ensures slides { CountsCollection result.compacted parts.old.collector.slides parts.new.collector.slides }
+    ensures stack { parts.new.collector.marker.capacity ≡ parts.old.collector.marker.capacity }
     ensures spare { parts.old.roots.finals.spare ≤ parts.new.roots.finals.spare }
     ensures options { parts.new.options ≡ parts.old.options }
     ensures types { parts.new.types ≡ parts.old.types }
@@ -149,7 +149,7 @@ fn fits_in_context(parts: &Parts, thread: usize, size: u64) -> bool
     requires most { size ≤ 1073741824 }
     ensures { result ≡ own_fits (seen parts.now).layout thread size }
 {
-    parts.workshop.young.fits(&parts.space.heap, thread, size)
+    parts.collector.young.fits(&parts.space.heap, thread, size)
 }
 
 // The generation that an allocation collects: 0, or 1 where more bytes went to it than its budget has, or 2 where more
@@ -179,8 +179,8 @@ fn refill_in_budget(parts: &mut Parts, thread: usize, size: u64) -> bool
     requires most { size ≤ 1073741824 }
     ensures refilled { IsRefillInBudget parts.old parts.new thread size result }
     ensures runtime { IsRuntime parts.new }
-    ensures slides { parts.new.workshop.slides ≡ parts.old.workshop.slides }
-    ensures stack { parts.new.workshop.marker.capacity ≡ parts.old.workshop.marker.capacity }
+    ensures slides { parts.new.collector.slides ≡ parts.old.collector.slides }
+    ensures stack { parts.new.collector.marker.capacity ≡ parts.old.collector.marker.capacity }
     ensures finals { parts.new.roots.finals ≡ parts.old.roots.finals }
     ensures types { parts.new.types ≡ parts.old.types }
     ensures safe { parts.new.safe ≡ parts.old.safe }
@@ -203,14 +203,14 @@ fn refill(parts: &mut Parts, thread: usize, size: u64) -> bool
     requires most { size ≤ 1073741824 }
     ensures refilled { IsRefill parts.old parts.new thread size result }
     ensures runtime { IsRuntime parts.new }
-    ensures slides { parts.new.workshop.slides ≡ parts.old.workshop.slides }
-    ensures stack { parts.new.workshop.marker.capacity ≡ parts.old.workshop.marker.capacity }
+    ensures slides { parts.new.collector.slides ≡ parts.old.collector.slides }
+    ensures stack { parts.new.collector.marker.capacity ≡ parts.old.collector.marker.capacity }
     ensures finals { parts.new.roots.finals ≡ parts.old.roots.finals }
     ensures types { parts.new.types ≡ parts.old.types }
     ensures safe { parts.new.safe ≡ parts.old.safe }
 {
     parts
-        .workshop
+        .collector
         .young
         .refill(&mut parts.space.heap, &parts.types, thread, size)
         .is_some()
@@ -229,8 +229,8 @@ fn refill_by_sealing(parts: &mut Parts, thread: usize, size: u64) -> Result<(), 
     requires small { size < parts.old.options.large }
     ensures refilled { IsSealedRefill (seen parts.old) (seen parts.new) thread size result }
     ensures runtime { IsRuntime parts.new }
-    ensures slides { parts.new.workshop.slides ≡ parts.old.workshop.slides }
-    ensures stack { parts.new.workshop.marker.capacity ≡ parts.old.workshop.marker.capacity }
+    ensures slides { parts.new.collector.slides ≡ parts.old.collector.slides }
+    ensures stack { parts.new.collector.marker.capacity ≡ parts.old.collector.marker.capacity }
     ensures finals { parts.new.roots.finals ≡ parts.old.roots.finals }
     ensures types { parts.new.types ≡ parts.old.types }
     ensures safe { parts.new.safe ≡ parts.old.safe }

@@ -1,12 +1,11 @@
 //! What the lines of a script work on: types, heap, locals, handles, and the finalisation queue.
 ghost use Rattle.std.specs.Prelude.{◌≡◌, ◌≤◌, ◌/◌, ◌⊎◌, ℕ, IfOk, IfSome, Some, length, true};
 ghost use Rattle.clr_types.specs.Types.{form_of};
-ghost use Rattle.clr_runtime.specs.Options.{options_of};
+ghost use Rattle.clr_options.specs.Options.{options_of};
 ghost use Rattle.clr_runtime.specs.Outcomes.{refusal_of_fault};
 
 use crate::NoMemory;
-use crate::opening::{first_roots, first_space, first_workshop};
-use crate::options::Options;
+use crate::opening::{first_collector, first_roots, first_space};
 use crate::parts::Parts;
 use crate::sums::Sums;
 use clr_bgmark::Background;
@@ -17,6 +16,7 @@ use clr_handles::Handles;
 use clr_heap::Heap;
 use clr_large::KindItems;
 use clr_model::Refusal;
+use clr_options::Options;
 use clr_safe::Safe;
 use clr_types::{DefineFault, Shape, TypeId, Types};
 use std::alloc::Global;
@@ -96,8 +96,9 @@ impl Runtime {
         Runtime::with_mark_stack(alloc, options, MARK_STACK)
     }
 
-    /// The same, where `capacity` objects, at least one, have room on the stack of a marking. The others are found
-    /// again by walks, so a small stack makes collections slower, and changes no answer.
+    /// No types, no objects, no handles, and every local is null; `capacity` objects, at least one, have room on the
+    /// stack of a marking. The others are found again by walks, so a small stack makes collections slower, and changes
+    /// no answer.
     pub fn with_mark_stack(
         alloc: Global,
         options: Options,
@@ -120,7 +121,7 @@ impl Runtime {
             drop(space);
             return Err(NoMemory);
         };
-        let Ok(workshop) = first_workshop(alloc, capacity) else {
+        let Ok(collector) = first_collector(alloc, capacity) else {
             drop(types);
             drop(space);
             drop(roots);
@@ -132,7 +133,7 @@ impl Runtime {
             large: KindItems::new(alloc),
             pinned: KindItems::new(alloc),
             roots,
-            workshop,
+            collector,
             safe: Safe::new(),
             background: Background::new(alloc),
             sums: Sums::NONE,
@@ -297,7 +298,7 @@ impl Runtime {
     pub fn compact_large(&self) -> bool
         ensures { result ≡ self.now.machine.compacts_large }
     {
-        self.parts.workshop.compacts_large
+        self.parts.collector.compacts_large
     }
 
     /// How many bytes all segments may reserve together.

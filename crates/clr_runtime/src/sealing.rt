@@ -20,8 +20,8 @@ pub(crate) fn seal_parts(parts: &mut Parts) -> Result<(), AcquireFault>
     requires no_contexts { parts.old.space.heap.rests ≡ no_rests }
     ensures sealed { IsSealing (seen parts.old) (seen parts.new) result }
     ensures runtime { IsRuntime parts.new }
-    ensures slides { parts.new.workshop.slides ≡ parts.old.workshop.slides }
-    ensures stack { parts.new.workshop.marker.capacity ≡ parts.old.workshop.marker.capacity }
+    ensures slides { parts.new.collector.slides ≡ parts.old.collector.slides }
+    ensures stack { parts.new.collector.marker.capacity ≡ parts.old.collector.marker.capacity }
     ensures finals { parts.new.roots.finals ≡ parts.old.roots.finals }
     ensures types { parts.new.types ≡ parts.old.types }
     ensures safe { parts.new.safe ≡ parts.old.safe }
@@ -33,6 +33,6 @@ pub(crate) fn seal_parts(parts: &mut Parts) -> Result<(), AcquireFault>
         &mut parts.space.bricks,
         parts.options.segment,
     )?;
-    parts.workshop.young.forget();
+    parts.collector.young.forget();
     Ok(())
 }

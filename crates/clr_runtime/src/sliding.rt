@@ -21,7 +21,7 @@ impl Runtime {
         if let Some(refusal) = self.refused_thread(t) {
             return Err(refusal);
         }
-        self.parts.workshop.compacts_large = true;
+        self.parts.collector.compacts_large = true;
         Ok(())
     }
 }

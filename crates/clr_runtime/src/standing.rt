@@ -2,27 +2,27 @@
 ghost use Rattle.std.specs.Prelude.{◌≡◌, ◌+◌, ◌≤◌, [], IfOk, None};
 ghost use Rattle.clr_generations.specs.Tables.{AreTablesOf};
 ghost use Rattle.clr_handles.specs.Tops.{pinned_in};
-ghost use Rattle.clr_runtime.specs.Options.{options_of};
+ghost use Rattle.clr_options.specs.Options.{options_of};
 ghost use Rattle.clr_runtime.specs.Standings.{CanGoOn, standing_machine};
 ghost use Rattle.clr_view.specs.View.{IsHeld};
 
 use crate::NoMemory;
 use crate::handles::reserve_ties;
-use crate::opening::{SPARE_SAVES, first_workshop};
-use crate::options::Options;
+use crate::opening::{SPARE_SAVES, first_collector};
 use crate::parts::Parts;
 use crate::runtime::{MARK_STACK, Runtime};
 use crate::sums::Sums;
 use clr_bgmark::Background;
 use clr_bricks::Bricks;
 use clr_cards::Cards;
-use clr_collect::Workshop;
+use clr_collect::CollectorState;
 use clr_final::Finals;
 use clr_generations::{Space, cover_standing};
 use clr_handles::{Handles, Kind, MOST_HANDLES};
 use clr_heap::Heap;
 use clr_large::KindItems;
 use clr_mark::Marker;
+use clr_options::Options;
 use clr_safe::Safe;
 use clr_survivors::Roots;
 use clr_types::{TypeId, Types};
@@ -68,7 +68,7 @@ impl Runtime {
             drop(roots);
             return Err(NoMemory);
         };
-        let Ok(workshop) = workshop_of(alloc, &roots.handles, compacts_large) else {
+        let Ok(collector) = collector_of(alloc, &roots.handles, compacts_large) else {
             drop(types);
             drop(roots);
             drop(space);
@@ -80,7 +80,7 @@ impl Runtime {
             large: lost_items(alloc),
             pinned: lost_items(alloc),
             roots,
-            workshop,
+            collector,
             safe,
             background: Background::new(alloc),
             sums: Sums::NONE,
@@ -115,7 +115,11 @@ fn space_of(alloc: Global, heap: Heap, types: &Types) -> Result<Space, NoMemory>
 
 // What collections work with, where there are these handles. The index of young free items is dropped: it is made where
 // room is first looked for.
-fn workshop_of(alloc: Global, handles: &Handles, compacts_large: bool) -> Result<Workshop, NoMemory>
+fn collector_of(
+    alloc: Global,
+    handles: &Handles,
+    compacts_large: bool,
+) -> Result<CollectorState, NoMemory>
     ensures young { IfOk result (λ w. w.young ≡ None) }
     ensures saved { IfOk result (λ w. w.pins.entries ≡ []) }
     ensures spare { IfOk result (λ w. pinned_in handles.now + 4 ≤ w.pins.spare) }
@@ -123,19 +127,19 @@ fn workshop_of(alloc: Global, handles: &Handles, compacts_large: bool) -> Result
     ensures stack { IfOk result (λ w. w.marker.capacity ≡ 1024) }
     ensures compacts_large { IfOk result (λ w. w.compacts_large ≡ compacts_large) }
 {
-    let mut workshop = first_workshop(alloc, MARK_STACK)?;
-    workshop.young.lose();
-    workshop.compacts_large = compacts_large;
+    let mut collector = first_collector(alloc, MARK_STACK)?;
+    collector.young.lose();
+    collector.compacts_large = compacts_large;
     let Some(count) = handles.pinned_count().checked_add(SPARE_SAVES) else {
-        drop(workshop);
+        drop(collector);
         return Err(NoMemory);
     };
-    let Ok(()) = workshop.pins.reserve(count) else {
-        drop(workshop);
+    let Ok(()) = collector.pins.reserve(count) else {
+        drop(collector);
         return Err(NoMemory);
     };
-    list_dependent(&mut workshop.marker, handles);
-    Ok(workshop)
+    list_dependent(&mut collector.marker, handles);
+    Ok(collector)
 }
 
 // Takes memory, so that a marking can list what dependent handles tie, where there are any.

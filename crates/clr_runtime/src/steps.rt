@@ -19,7 +19,7 @@ use crate::parts::Parts;
 use crate::rooms::make_room;
 use crate::runtime::Runtime;
 use crate::slots::find_slot;
-use clr_generations::bear;
+use clr_generations::allocate;
 use clr_model::Refusal;
 use clr_safe::Begun;
 use clr_types::TypeId;
@@ -161,8 +161,8 @@ fn begin_small(parts: &mut Parts, t: u64, local: u64, request: Request) -> Resul
     requires entry { request.finalizer ≡ true → births_owed parts.old.safe + 1 ≤ parts.old.roots.finals.spare }
     requires small { request.size < parts.old.options.large }
     ensures begun { FollowsBegun parts.old parts.new t local request result }
-    ensures grew { result ≡ Err Refusal.Oom → Grew parts.old.workshop.slides parts.new.workshop.slides }
-    ensures stack { parts.new.workshop.marker.capacity ≡ parts.old.workshop.marker.capacity }
+    ensures grew { result ≡ Err Refusal.Oom → Grew parts.old.collector.slides parts.new.collector.slides }
+    ensures stack { parts.new.collector.marker.capacity ≡ parts.old.collector.marker.capacity }
     ensures runtime { IsRuntime parts.new }
 {
     if let Err(why) = make_room(parts, t as usize, request.size) {
@@ -188,7 +188,7 @@ fn finish_store(parts: &mut Parts, t: u64, object: u64, index: u64)
     requires begun { begun_by parts.old.safe t ≡ Store object index }
     ensures finished { Follows (seen parts.old) (finish_step t) (answered Done) (seen parts.new) }
     ensures runtime { IsRuntime parts.new }
-    ensures workshop { parts.new.workshop ≡ parts.old.workshop }
+    ensures collector { parts.new.collector ≡ parts.old.collector }
 {
     let item = object_item(&parts.space.heap, &parts.types, object);
     let slot = parts.types.slot(item.type_id, item.len, index);
@@ -212,10 +212,10 @@ fn finish_birth(
     requires begun { begun_by parts.old.safe t ≡ Birth type_id len local finalizer }
     ensures finished { Follows (seen parts.old) (finish_step t) (answered (Place result)) (seen parts.new) }
     ensures runtime { IsRuntime parts.new }
-    ensures workshop { parts.new.workshop ≡ parts.old.workshop }
+    ensures collector { parts.new.collector ≡ parts.old.collector }
 {
     let size = parts.types.item_size(type_id, len);
-    let place = bear(
+    let place = allocate(
         &mut parts.space.heap,
         &parts.types,
         &mut parts.space.bricks,

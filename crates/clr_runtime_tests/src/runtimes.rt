@@ -36,7 +36,8 @@ fn small_runtime(alloc: Global) -> Result<Runtime, Fail> {
     runtime_of_segments(alloc, 2)
 }
 
-// The same with room for so many segments.
+// A runtime with room for so many segments, with a class of a reference and a number, arrays of references, and arrays
+// of bytes.
 fn runtime_of_segments(alloc: Global, count: u64) -> Result<Runtime, Fail>
     requires least { 2 ≤ count }
     requires most { count ≤ 4096 }

@@ -6,7 +6,7 @@ ghost use Rattle.clr_model.specs.Machine.{Machine};
 ghost use Rattle.clr_model.specs.LineGrammar.{script_lines, ended_lines};
 ghost use Rattle.clr_model.specs.Run.{opening};
 ghost use Rattle.clr_runtime.specs.RuntimeView.{StandsFor};
-ghost use Rattle.clr_runtime.specs.Options.{options_of};
+ghost use Rattle.clr_options.specs.Options.{options_of};
 ghost use Rattle.clr_streams.specs.Faults.{Rose, Appended};
 ghost use Rattle.clr_session.specs.Progress.{Answered, CutShort};
 ghost use Rattle.clr_session.specs.Runs.{IsRunFrom, IsRunOf};

@@ -7,7 +7,7 @@ ghost use Rattle.clr_model.specs.Outcomes as model;
 ghost use Rattle.clr_runtime.specs.RuntimeView.{StandsFor};
 ghost use Rattle.clr_model.specs.declared.Reply.TheVariants.{Clean};
 ghost use Rattle.clr_lines.specs.Outcomes.{outcome_of};
-ghost use Rattle.clr_runtime.specs.Options.{options_of};
+ghost use Rattle.clr_options.specs.Options.{options_of};
 ghost use Rattle.clr_script.specs.Made.{made_lines};
 ghost use Rattle.clr_streams.specs.Faults.{Rose};
 ghost use Rattle.clr_session.specs.Soak.{is_refused, refused_count, stat_text, summary_text};

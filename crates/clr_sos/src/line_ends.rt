@@ -49,7 +49,7 @@ pub(crate) fn put_line(
     put_by(text, types, item, end)
 }
 
-// The same with the end that may be that of the item.
+// Puts the line of an item at the end, by the end of a line that may be that of the item.
 #[inline(always)]
 fn put_by(
     text: &mut Vec<u8>,

@@ -192,7 +192,7 @@ impl Reached {
         self.meet_in(view, k, place, origin)
     }
 
-    // The same for an object in segment `k`.
+    // Adds an object of segment `k`, where it wasn't found before.
     #[inline(always)]
     fn meet_in(
         &mut self,
@@ -361,7 +361,7 @@ impl Reached {
         }
     }
 
-    // The same, where the references are one run.
+    // Adds what the slots of the item of entry `i` name, where they are one run of words.
     #[inline(always)]
     fn follow_run(
         &mut self,
@@ -387,7 +387,7 @@ impl Reached {
         Ok(())
     }
 
-    // The same, slot by slot.
+    // Adds what the slots of the item of entry `i` name, slot by slot.
     #[inline(never)]
     fn follow_each(
         &mut self,

@@ -51,14 +51,6 @@ pub record IsBirth (rows : List TypeRow) (old new : HeapView) (thread t n : ℕ)
   pub clear : IsClearBehind rows (word_of new) (context_front (frame old) thread) t n
 
 module _ (rows : List TypeRow) (h : HeapView) (thread t n : ℕ) (asked : IsAsked rows h thread t n) where
-  -- so the thread has a context
-  pub some-context : None ≡ option_map rest_bounds (rest_of (frame h) thread) → ⊥
-  some-context none = go (rest_of (frame h) thread) asked.room none
-    where
-      go : (o : Option Piece) → rest_fits o (size_of (form_at rows t) n) ≡ true → None ≡ option_map rest_bounds o → ⊥
-      go None room e = cc
-      go (Some r) room e = cc
-
   module _ (front end : ℕ) (found : Some (front, end) ≡ option_map rest_bounds (rest_of (frame h) thread)) where
     -- the context
     pub record IsFound : Type 0 where

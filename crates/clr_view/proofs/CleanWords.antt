@@ -1,8 +1,8 @@
 -- Headers and padding stay clean where an object is born, where a slot is written and where a type is defined, and
 -- where objects stay.
-use Rattle.std.proofs.Common.{◌≡◌, ◌≢◌, ◌⊎◌, inl, inr, ℕ, ◌+◌, ◌-◌, ◌%◌, ◌<◌, ◌≤◌, Bool, true, Option, List, [], ◌∷◌}
-use Rattle.std.proofs.Common.{◌++◌, filter, refl, ap, sym, ◌∙◌, subst, arith}
-use Rattle.std.proofs.lemmas.Bool.{cases_eq, ne_eqb}
+use Rattle.std.proofs.Common.{◌≡◌, ◌≢◌, ◌⊎◌, inl, inr, ℕ, ◌+◌, ◌-◌, ◌%◌, ◌<◌, ◌≤◌, true, Option, List, [], ◌∷◌}
+use Rattle.std.proofs.Common.{◌++◌, filter, ap, sym, ◌∙◌, subst, arith}
+use Rattle.std.proofs.lemmas.Bool.{cases_eq}
 use Rattle.clr_types.specs.Bits.{suppressed_bit}
 use Rattle.clr_mem.specs.Words.{byte_of}
 use Rattle.clr_types.specs.Rising.{IsIn}
@@ -19,7 +19,6 @@ use Rattle.clr_heap.proofs.Placing.{Placed, placed_leaves}
 use Rattle.clr_model.specs.Allocation.{context_front}
 use Rattle.clr_model.specs.Machine.{Object}
 use Rattle.clr_view.specs.Clean.{AreClean, AreZero, HasCleanWords, IsCleanHeader, slots_end}
-use Rattle.clr_view.specs.Memory.{word_without_mark}
 use Rattle.clr_view.specs.SlotValues.{StandsAt}
 use Rattle.clr_view.specs.View.{IsHeld, is_object, KeepsObjects, newborn_at, object_in, objects_in}
 use Rattle.clr_view.proofs.Bearing.{born-listed, born-stands, IsBirth}
@@ -99,16 +98,6 @@ module _ (rows : List TypeRow) (old new : HeapView) (heap : IsHeap old) (held : 
         | inl same ↦ same
         | inr stands ↦ absurd (no-object-inside rows old heap held i b there low high ne stands)
       ])
-
-  -- and so do those that a test passes, whose words stay without their marks
-  pub clean_left : (test : Object → Bool) → objects_in rows new ≡ filter test (objects_in rows old)
-      → ((i : Item) (b : ℕ) → IsIn i (heap_items rows new) → is_object i ≡ true → b % 8 ≡ 0 → i.place ≤ b + 8
-      → b + 8 < i.place + i.size → word_of new b ≡ word_without_mark old i b)
-      → AreClean rows old → AreClean rows new
-  clean_left test objects cells = clean_but_marks
-      (λ o l. (out_of_filter test o (objects_in rows old) (subst (IsIn o) objects l)).1)
-      (λ i b there listed object z low high ne. let other = ne_eqb b i.place ne in
-      cells i b listed object z low high ∙ rw other refl)
 
 -- ---- births
 

@@ -1,25 +1,24 @@
 -- Whether finalisers are suppressed: what an object's header says of it, and what is left where that is written.
-use Rattle.std.proofs.Common.{◌≡◌, ◌↔◌, ℕ, ◌+◌, ◌-◌, ◌/◌, ◌%◌, ◌≤◌, inl, inr, Bool, true, false, not, ◌&&◌, List, []}
-use Rattle.std.proofs.Common.{◌∷◌, Option, if◌then◌else◌, ◌==◌, refl, ap, sym, ◌∙◌, subst, arith}
+use Rattle.std.proofs.Common.{◌≡◌, ◌↔◌, ℕ, ◌+◌, ◌-◌, ◌/◌, ◌%◌, ◌≤◌, inl, inr, Bool, true, false, not, ◌&&◌, List}
+use Rattle.std.proofs.Common.{Option, if◌then◌else◌, refl, ap, sym, ◌∙◌, subst, arith}
 use Rattle.std.proofs.lemmas.Bool.{eq-eqb, eqb-false, eqb-true, ne_eqb}
 use Rattle.clr_types.specs.Bits.{suppressed_bit}
-use Rattle.clr_types.specs.Rising.{changed_by, first, IsIn, later}
+use Rattle.clr_types.specs.Rising.{IsIn}
 use Rattle.clr_types.specs.Types.{bytes_form, class_form, Form, form_at, has_finalizer, references_form, structs_form}
 use Rattle.clr_types.specs.Types.{type_row, TypeRow}
 use Rattle.clr_types.specs.declared.item.Item.{Item}
-use Rattle.clr_types.proofs.RisingLists.{in_cons}
 use Rattle.clr_heap.specs.Memories.{HasWord}
 use Rattle.clr_heap.specs.Parts.{item_at}
 use Rattle.clr_heap.specs.View.{heap_items, HeapView, IsHeap, stored, word_of}
 use Rattle.clr_model.specs.Lookups.{type_of_object}
-use Rattle.clr_model.specs.Machine.{Object, ref}
-use Rattle.clr_model.specs.Reach.{SlotNames, suppressed_or_none}
+use Rattle.clr_model.specs.Machine.{Object}
+use Rattle.clr_model.specs.Reach.{suppressed_or_none}
 use Rattle.clr_model.specs.Updates.{with_flag_of}
 use Rattle.clr_view.specs.Clean.{AreClean, IsCleanHeader, slots_end}
 use Rattle.clr_view.specs.Flags.{flagged, HasFlagged, is_final_at, is_suppressed_at, with_flag_at}
 use Rattle.clr_view.specs.Marks.{IsUnmarked}
 use Rattle.clr_view.specs.SlotValues.{IsObjectAt, StandsAt}
-use Rattle.clr_view.specs.View.{AreFreeHeads, has_suppressed_bit, IsHeld, is_object, object_in, objects_in}
+use Rattle.clr_view.specs.View.{AreFreeHeads, has_suppressed_bit, IsHeld, is_object, object_in}
 use Rattle.clr_view.proofs.CleanWords.{clean_stored, LeavesHeader, LeavesPadding}
 use Rattle.clr_view.proofs.FreeHeads.{heads_stored}
 use Rattle.clr_view.proofs.Listed.{listed-above, listed-item}
@@ -183,70 +182,8 @@ module _ (rows : List TypeRow) (h : HeapView) (place : ℕ) (heap : IsHeap h) (h
 
 -- ---- objects that differ in flags alone
 
--- two objects of one name, place, type and length, and with the same slots
-pub record IsTwin (o p : Object) : Type 0 where
-  pub name : p.name ≡ o.name
-  pub place : p.place ≡ o.place
-  pub type : p.type ≡ o.type
-  pub len : p.len ≡ o.len
-  pub slots : p.slots ≡ o.slots
-
-module _ (place : ℕ) (flag : Bool) where
-  abbrev with_flags : List Object → List Object
-  with_flags = changed_by (λ o. o.name) place (with_flag_of flag)
-
-  twin : (o : Object) (here : Bool) → IsTwin o (if here then with_flag_of flag o else o)
-  twin o true = record { name = refl; place = refl; type = refl; len = refl; slots = refl }
-  twin o false = record { name = refl; place = refl; type = refl; len = refl; slots = refl }
-
-  into-flagged : (o : Object) (os : List Object) → IsIn o os
-      → (p : Object) × IsIn p (with_flags os) × IsTwin o p
-  into-flagged o [] i = elim i [ ]
-  into-flagged o (x ∷ os) first = (_, first, twin o (o.name == place))
-  into-flagged o (x ∷ os) (later i) = let (p, m, same) = into-flagged o os i in (p, later m, same)
-
-  out-flagged : (p : Object) (os : List Object) → IsIn p (with_flags os)
-      → (o : Object) × IsIn o os × IsTwin o p
-  out-flagged p [] i = elim i [ ]
-  out-flagged p (x ∷ os) i = elim (in_cons i) [
-    | inl here ↦ (x, first, subst (IsTwin x) (sym here) (twin x (x.name == place)))
-    | inr more ↦ let (o, m, same) = out-flagged p os more in (o, later m, same)
-  ]
-
 module _ {rows : List TypeRow} {old new : HeapView} {place : ℕ} {flag : Bool}
     (is : HasFlagged rows old new place flag) where
-  -- each object has its twin
-  pub flagged_twin : (o : Object) → IsIn o (objects_in rows old)
-      → (p : Object) × IsIn p (objects_in rows new) × IsTwin o p
-  flagged_twin o i =
-      let (p, m, same) = into-flagged place flag o (objects_in rows old) i in
-      (p, subst (IsIn p) (sym is.objects) m, same)
-
-  pub flagged_was : (p : Object) → IsIn p (objects_in rows new)
-      → (o : Object) × IsIn o (objects_in rows old) × IsTwin o p
-  flagged_was p i = out-flagged place flag p (objects_in rows old) (subst (IsIn p) is.objects i)
-
   -- objects stand where they stood
   pub flagged_stands : (x : ℕ) → StandsAt rows old x ↔ StandsAt rows new x
   flagged_stands x = (stands-kept rows old new is.items x, stands-kept rows new old (sym is.items) x)
-
-  -- and name what they named
-  pub flagged_names : (x y : ℕ) → SlotNames (objects_in rows old) x y ↔ SlotNames (objects_in rows new) x y
-  flagged_names x y = (
-    λ s. let (p, i, same) = flagged_twin s.object s.present in
-        record {
-          object = p;
-          present = i;
-          named = same.name ∙ s.named;
-          slot = subst (IsIn (ref y)) (sym same.slots) s.slot;
-          not_null = s.not_null;
-        },
-    λ s. let (o, i, same) = flagged_was s.object s.present in
-        record {
-          object = o;
-          present = i;
-          named = sym same.name ∙ s.named;
-          slot = subst (IsIn (ref y)) same.slots s.slot;
-          not_null = s.not_null;
-        },
-  )

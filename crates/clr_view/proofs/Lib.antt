@@ -22,7 +22,6 @@ pub mod FreeHeads
 pub mod Padding
 pub mod CleanWords
 pub mod LeftNames
-pub mod Among
 pub mod Standing
 pub mod Headers
 pub mod Worlds

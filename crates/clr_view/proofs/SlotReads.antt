@@ -20,7 +20,7 @@ use Rattle.clr_view.specs.View.{AreFreeHeads, HasStored, IsByteSlot, IsHeld, IsW
 use Rattle.clr_view.specs.View.{slot_value, word_value}
 use Rattle.clr_view.specs.Clean.{AreClean, slots_end}
 use Rattle.clr_view.specs.Marks.{IsUnmarked}
-use Rattle.clr_view.specs.SlotValues.{HasSlot, IsSlot, with_value, with_value_at}
+use Rattle.clr_view.specs.SlotValues.{HasSlot, IsSlot}
 use Rattle.clr_view.proofs.CleanWords.{behind-header, clean_stored, LeavesPadding}
 use Rattle.clr_view.proofs.FreeHeads.{heads_stored}
 use Rattle.clr_view.proofs.Listed.{listed-head, listed-item, listed-low, listed-sized}
@@ -309,19 +309,3 @@ module _ (rows : List TypeRow) (h : HeapView) (i : Item) (slot : Slot) (heap : I
       (clean_stored rows h i (word_address at) w heap held cell
       (behind-header rows h i (word_address at) w heap held cell (byte_slot_above rows h i j v heap held is small))
       leaves clean)
-
-  -- which heap that is
-  pub word-written : (new : HeapView) (v : ℕ) → is_bytes form ≡ false → new ≡ stored h a v
-      → new ≡ with_value rows h i slot v
-  word-written new v words new_is = new_is ∙ go form words
-    where
-      go : (f : Form) → is_bytes f ≡ false → stored h a v ≡ with_value_at f h a v
-      go (class_form pattern) e = refl
-      go references_form e = refl
-      go bytes_form e = absurd (true≢false e)
-      go (structs_form pattern) e = refl
-
-  pub byte-written : (new : HeapView) (v : ℕ) → is_bytes form ≡ true
-      → new ≡ stored h (word_address a) (with_byte (word_of h (word_address a)) (a % 8) v)
-      → new ≡ with_value rows h i slot v
-  byte-written new v bytes new_is = new_is ∙ ap (λ f. with_value_at f h a v) (sym (bytes-form form bytes))

@@ -1,5 +1,5 @@
 -- The ephemeral segment of a heap, by its number, and its end that moves.
-use Rattle.std.proofs.Common.{if◌then◌else◌, ◌≡◌, ℕ, zero, suc, ◌<◌, ◌≤◌, true, false, List, [], ◌∷◌, length, get_or}
+use Rattle.std.proofs.Common.{◌≡◌, ℕ, zero, suc, ◌<◌, ◌≤◌, true, false, List, [], ◌∷◌, length, get_or}
 use Rattle.std.proofs.Common.{set, refl, ap, sym, ◌∙◌, subst, arith, inl, inr}
 use Rattle.std.specs.List.{AllByRecursion}
 use Rattle.std.proofs.lemmas.Bool.{cases_Bool, eq-eqb, ne_eqb}
@@ -9,7 +9,7 @@ use Rattle.clr_types.specs.LawfulLayout.{AreDisjoint, IsLawfulSegment}
 use Rattle.clr_types.specs.declared.segment.SegInfo.{SegInfo}
 use Rattle.clr_types.specs.declared.segment.SegKind.{SegKind}
 use Rattle.clr_types.specs.declared.segment.SegKind.TheVariants.{Small, Ephemeral, Large, Pinned}
-use Rattle.clr_heap.specs.View.{frame, HeapView, holes_of, IsHeap, segment_at}
+use Rattle.clr_heap.specs.View.{frame, HeapView, IsHeap, segment_at}
 use Rattle.clr_heap.proofs.Framing.{all_at, ephemerals}
 use Rattle.clr_heap.proofs.Young.{young_number}
 
@@ -150,11 +150,6 @@ module _ (h : HeapView) (k : ℕ) (heap : IsHeap h) (e : IsEphemeral h k) where
   -- no other segment has it
   pub only-young : (j : ℕ) → j < length h.segments → (segment_at h j).kind ≡ Ephemeral → j ≡ k
   only-young j l kind = young-alone h.segments j k l e.in_range (ap (same_kind Ephemeral) kind) young heap.one_ephemeral
-
-  -- its holes are the rests of contexts
-  pub holes-are : holes_of h k ≡ h.rests
-  holes-are = ap (λ (kind : SegKind). if same_kind kind Ephemeral then h.rests else [])
-      (kind-is (segment_at h k).kind young)
 
   -- it has the end to which it is moved
   pub ephemeral-ended : (end : ℕ)

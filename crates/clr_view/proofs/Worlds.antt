@@ -5,10 +5,8 @@ use Rattle.std.specs.Ordering.{nat_cmp}
 use Rattle.clr_types.specs.Types.{TypeRow}
 use Rattle.clr_types.specs.declared.handle.Handle.{Handle}
 use Rattle.clr_heap.specs.View.{HeapView}
-use Rattle.clr_view.specs.Flags.{HasFlagged}
 use Rattle.clr_view.specs.SlotValues.{StandsAt}
 use Rattle.clr_view.specs.World.{HandlesStand, IsNullOrStands}
-use Rattle.clr_view.proofs.Headers.{flagged_stands}
 
 module _ (rows after : List TypeRow) (old new : HeapView)
     (stands : (x : ℕ) → StandsAt rows old x → StandsAt after new x) where
@@ -24,9 +22,3 @@ module _ (rows after : List TypeRow) (old new : HeapView)
         second = null_or_stands row.second is.second;
         owned = is.owned;
       }
-
--- where a flag was written, too
-pub flagged_handles : (rows : List TypeRow) (old new : HeapView) (place : ℕ) (flag : _)
-    → HasFlagged rows old new place flag → (handles : FinMap nat_cmp Handle) → HandlesStand rows old handles
-    → HandlesStand rows new handles
-flagged_handles rows old new place flag is = handles_stand rows rows old new (λ x. (flagged_stands is x).0)

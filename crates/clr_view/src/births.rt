@@ -20,7 +20,14 @@ use clr_types::{TypeId, Types};
 /// the free items and the rest of the layout stay. It marks nothing, changes no head of a free item, and leaves headers
 /// and padding clean.
 #[inline(always)]
-pub fn bear(heap: &mut Heap, types: &Types, thread: usize, t: TypeId, len: u64, size: u64) -> u64
+pub fn allocate(
+    heap: &mut Heap,
+    types: &Types,
+    thread: usize,
+    t: TypeId,
+    len: u64,
+    size: u64,
+) -> u64
     requires held { IsHeld types.now heap.old }
     requires positive { 0 < thread }
     requires few { thread ≤ 16 }

@@ -1,5 +1,5 @@
 // The bounds of options.
-use clr_runtime::Options;
+use clr_options::Options;
 use std::test::Fail;
 
 // One option that is another than the default.

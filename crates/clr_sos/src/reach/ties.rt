@@ -23,7 +23,7 @@ pub fn ties_of(alloc: Global, handles: &Handles) -> Result<Vec<Tie>, AllocError>
     Ok(ties)
 }
 
-// The same, by the numbers of the handles.
+// The second objects of all dependent handles, by the numbers of the handles.
 fn list_ties(alloc: Global, handles: &Handles) -> Result<Vec<Tie>, AllocError>
     ensures { IfOk result (λ ties. ListsTies handles.now ties.items) }
 {

@@ -36,7 +36,7 @@ pub fn judge_heap(judge: &Judge<'_>, low: Option<u64>) -> Option<u64>
     low
 }
 
-// The same of the references of a segment.
+// The lowest of an address and of those of the bad references of a segment, in a window.
 #[inline(always)]
 fn judge_segment(judge: &Judge<'_>, k: usize, low: Option<u64>) -> Option<u64>
     requires in_range { k < length judge.now.heap.now.segments }
@@ -51,7 +51,7 @@ fn judge_segment(judge: &Judge<'_>, k: usize, low: Option<u64>) -> Option<u64>
     low
 }
 
-// The same of the references of an item.
+// The lowest of an address and of those of the bad references of an item, in a window.
 #[inline(always)]
 fn judge_item(judge: &Judge<'_>, k: usize, item: Item, low: Option<u64>) -> Option<u64>
     requires in_range { k < length judge.now.heap.now.segments }
@@ -65,7 +65,7 @@ fn judge_item(judge: &Judge<'_>, k: usize, item: Item, low: Option<u64>) -> Opti
     }
 }
 
-// The same, where the references are one run.
+// The lowest of an address and of those of the bad references of an item, where these are one run of words.
 #[inline]
 fn judge_run(
     judge: &Judge<'_>,
@@ -88,7 +88,7 @@ fn judge_run(
     low
 }
 
-// The same, slot by slot.
+// The lowest of an address and of those of the bad references of an item, slot by slot.
 fn judge_slots(judge: &Judge<'_>, k: usize, item: Item, low: Option<u64>) -> Option<u64>
     requires in_range { k < length judge.now.heap.now.segments }
     requires judging { CanJudge judge.now }

@@ -10,7 +10,7 @@ use Rattle.clr_view.specs.World.{IsWorldOf, World}
 use Rattle.clr_sweep.specs.Swept.{tally_of}
 use Rattle.clr_survivors.specs.Moving.{IsMarkedFor}
 use Rattle.clr_survivors.specs.Survivors.{world_of}
-use Rattle.clr_collect.specs.declared.workshop.Workshop.{Workshop}
+use Rattle.clr_collect.specs.declared.collector.CollectorState.{CollectorState}
 use Rattle.clr_collect.proofs.BeforeSlide.{ComesTo, whole_collection}
 use Rattle.clr_collect.proofs.KeptRoots.{ready_still, same_moves, same_world}
 use Rattle.clr_collect.proofs.MovedWorld.{known_moved, moved_comes}
@@ -73,22 +73,22 @@ slide_and_release-requires-clause-occupied c =
 
 pub slide_and_release-requires-clause-ready : goal.slide_and_release-requires-clause-ready
 slide_and_release-requires-clause-ready c =
-    ready_still c.args.roots.now.handles c.mark_kept.new.roots.handles c.args.workshop.now.pins
+    ready_still c.args.roots.now.handles c.mark_kept.new.roots.handles c.args.collector.now.pins
     (pinned_kept (world_of c.args.types.now c.args.space.now.heap c.args.roots.now)
     c.mark_kept.new.space.heap c.mark_kept.new.roots.handles c.mark_kept.new.roots.finals c.args.g c.requires.generation
     c.mark_kept.ensures.kept c.requires.world) c.requires.ready
 
 pub returns-then-not-compacts-clause-collected : goal.returns-then-not-compacts-clause-collected
 returns-then-not-compacts-clause-collected c =
-    let slides = c.args.workshop.now.slides in
+    let slides = c.args.collector.now.slides in
     whole_collection (world_of c.args.types.now c.args.space.now.heap c.args.roots.now) c.args.g c.args.how
     c.requires.usual c.args.threshold c.answer.result
     (world_of c.args.types.now c.sweep-swept.new.heap c.mark_kept.new.roots)
     (world_of c.args.types.now c.slide_and_release.new.space.heap c.slide_and_release.new.roots) slides
-    c.slide_and_release.new.workshop.slides c.args.workshop.now.compacts_large
+    c.slide_and_release.new.collector.slides c.args.collector.now.compacts_large
     (subst (ComesTo (world_of c.args.types.now c.args.space.now.heap c.args.roots.now) c.args.g c.args.how
     c.args.threshold c.answer.result (world_of c.args.types.now c.sweep-swept.new.heap c.mark_kept.new.roots) slides)
-    (sym (ap (λ (s : Workshop). s.slides) c.slide_and_release.ensures.workshop))
+    (sym (ap (λ (s : CollectorState). s.slides) c.slide_and_release.ensures.collector))
     (subst (λ (v : World). ComesTo (world_of c.args.types.now c.args.space.now.heap c.args.roots.now) c.args.g
     c.args.how c.args.threshold c.answer.result v slides slides)
     (same_world c.args.types.now c.sweep-swept.new.heap c.args.roots.now c.mark_kept.new.roots
@@ -102,11 +102,12 @@ returns-then-not-compacts-clause-collected c =
     c.slide_and_release.ensures.ended
 
 pub returns-then-not-compacts-clause-flag : goal.returns-then-not-compacts-clause-flag
-returns-then-not-compacts-clause-flag c = ap (λ (s : Workshop). s.compacts_large) c.slide_and_release.ensures.workshop
+returns-then-not-compacts-clause-flag c = ap (λ (s : CollectorState). s.compacts_large)
+    c.slide_and_release.ensures.collector
 
 pub returns-then-not-compacts-clause-marker : goal.returns-then-not-compacts-clause-marker
 returns-then-not-compacts-clause-marker c =
-    ap (λ (s : Workshop). s.marker) c.slide_and_release.ensures.workshop ∙ c.mark_kept.ensures.marker
+    ap (λ (s : CollectorState). s.marker) c.slide_and_release.ensures.collector ∙ c.mark_kept.ensures.marker
 
 pub returns-then-not-compacts-clause-index : goal.returns-then-not-compacts-clause-index
 returns-then-not-compacts-clause-index c =
@@ -152,7 +153,7 @@ move_kept-tally-requires-clause-marked c =
 
 pub move_kept-tally-requires-clause-ready : goal.move_kept-tally-requires-clause-ready
 move_kept-tally-requires-clause-ready c =
-    ready_still c.args.roots.now.handles c.mark_kept.new.roots.handles c.args.workshop.now.pins
+    ready_still c.args.roots.now.handles c.mark_kept.new.roots.handles c.args.collector.now.pins
     (pinned_kept (world_of c.args.types.now c.args.space.now.heap c.args.roots.now)
     c.mark_kept.new.space.heap c.mark_kept.new.roots.handles c.mark_kept.new.roots.finals c.args.g c.requires.generation
     c.mark_kept.ensures.kept c.requires.world) c.requires.ready
@@ -163,12 +164,12 @@ slide_and_release-requires-2-clause-world c =
     c.mark_kept.new.space.heap c.mark_kept.new.roots.handles c.mark_kept.new.roots.finals c.args.g c.requires.generation
     c.mark_kept.ensures.kept c.move_kept-tally.new.space.heap c.move_kept-tally.new.roots.locals.items
     c.move_kept-tally.new.roots.handles c.move_kept-tally.new.roots.finals
-    c.move_kept-tally.result.promoted1 c.move_kept-tally.result.promoted2 c.args.workshop.now.slides
+    c.move_kept-tally.result.promoted1 c.move_kept-tally.result.promoted2 c.args.collector.now.slides
     c.move_kept-tally.new.slides (is_fit c.args.how)
     (same_moves
     c.args.types.now c.mark_kept.new.space.heap c.args.roots.now c.mark_kept.new.roots c.mark_kept.ensures.locals
     (is_fit c.args.how) (world_of c.args.types.now c.move_kept-tally.new.space.heap c.move_kept-tally.new.roots)
-    c.args.g c.move_kept-tally.result.promoted1 c.move_kept-tally.result.promoted2 c.args.workshop.now.slides
+    c.args.g c.move_kept-tally.result.promoted1 c.move_kept-tally.result.promoted2 c.args.collector.now.slides
     c.move_kept-tally.new.slides c.move_kept-tally.ensures.moved)
     (tally_of c.args.types.now c.mark_kept.new.space.heap c.args.g) refl
     (record {
@@ -184,16 +185,16 @@ slide_and_release-requires-2-clause-world c =
 
 pub returns-clause-collected : goal.returns-clause-collected
 returns-clause-collected c =
-    let slides = c.args.workshop.now.slides in
+    let slides = c.args.collector.now.slides in
     whole_collection (world_of c.args.types.now c.args.space.now.heap c.args.roots.now) c.args.g c.args.how
     c.requires.usual c.args.threshold c.answer-2.result
     (world_of c.args.types.now c.move_kept-tally.new.space.heap c.move_kept-tally.new.roots)
     (world_of c.args.types.now c.slide_and_release-2.new.space.heap c.slide_and_release-2.new.roots) slides
-    c.slide_and_release-2.new.workshop.slides c.args.workshop.now.compacts_large
+    c.slide_and_release-2.new.collector.slides c.args.collector.now.compacts_large
     (subst (ComesTo (world_of c.args.types.now c.args.space.now.heap c.args.roots.now) c.args.g c.args.how
     c.args.threshold c.answer-2.result (world_of c.args.types.now c.move_kept-tally.new.space.heap
     c.move_kept-tally.new.roots) slides)
-    (sym (ap (λ (s : Workshop). s.slides) c.slide_and_release-2.ensures.workshop))
+    (sym (ap (λ (s : CollectorState). s.slides) c.slide_and_release-2.ensures.collector))
     (moved_comes (world_of c.args.types.now c.args.space.now.heap c.args.roots.now)
     c.mark_kept.new.space.heap c.mark_kept.new.roots.handles c.mark_kept.new.roots.finals c.args.g c.requires.generation
     c.mark_kept.ensures.kept c.move_kept-tally.new.space.heap c.move_kept-tally.new.roots.locals.items
@@ -203,7 +204,7 @@ returns-clause-collected c =
     (same_moves
     c.args.types.now c.mark_kept.new.space.heap c.args.roots.now c.mark_kept.new.roots c.mark_kept.ensures.locals
     (is_fit c.args.how) (world_of c.args.types.now c.move_kept-tally.new.space.heap c.move_kept-tally.new.roots)
-    c.args.g c.move_kept-tally.result.promoted1 c.move_kept-tally.result.promoted2 c.args.workshop.now.slides
+    c.args.g c.move_kept-tally.result.promoted1 c.move_kept-tally.result.promoted2 c.args.collector.now.slides
     c.move_kept-tally.new.slides c.move_kept-tally.ensures.moved)
     (tally_of c.args.types.now c.mark_kept.new.space.heap c.args.g) refl c.answer-2.result
     (c.answer-2.ensures
@@ -222,11 +223,11 @@ returns-clause-collected c =
     c.slide_and_release-2.ensures.ended
 
 pub returns-clause-flag : goal.returns-clause-flag
-returns-clause-flag c = ap (λ (s : Workshop). s.compacts_large) c.slide_and_release-2.ensures.workshop
+returns-clause-flag c = ap (λ (s : CollectorState). s.compacts_large) c.slide_and_release-2.ensures.collector
 
 pub returns-clause-marker : goal.returns-clause-marker
 returns-clause-marker c =
-    ap (λ (s : Workshop). s.marker) c.slide_and_release-2.ensures.workshop ∙ c.mark_kept.ensures.marker
+    ap (λ (s : CollectorState). s.marker) c.slide_and_release-2.ensures.collector ∙ c.mark_kept.ensures.marker
 
 pub returns-clause-limit : goal.returns-clause-limit
 returns-clause-limit c =

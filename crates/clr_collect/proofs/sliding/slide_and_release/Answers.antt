@@ -17,9 +17,9 @@ returns-clause-ended c = λ n is named.
           (λ two. c.slide_if.ensures.occupied (c.requires.occupied two)) (picture slid) world,
     )
 
-pub returns-clause-workshop : goal.returns-clause-workshop
-returns-clause-workshop c =
-    ap (λ (b : Bool). record c.args.workshop.now { pins = c.slide_if.new.pins; compacts_large = b }) c.put_down.ensures
+pub returns-clause-collector : goal.returns-clause-collector
+returns-clause-collector c =
+    ap (λ (b : Bool). record c.args.collector.now { pins = c.slide_if.new.pins; compacts_large = b }) c.put_down.ensures
 
 pub returns-clause-unmarked : goal.returns-clause-unmarked
 returns-clause-unmarked c =

@@ -2,8 +2,8 @@ use Rattle.std.proofs.Common.{◌≡◌, ap, arith, length}
 use Rattle.clr_plan.proofs.LargeWholes.{large-laid, large-lays, large-planned, large_wholes, none-laid}
 use Rattle.clr_plan.proofs.large.plan_large.Goals as goal
 
-pub lay_whole-requires : goal.lay_whole-requires
-lay_whole-requires c = record {
+pub plan_whole-requires : goal.plan_whole-requires
+plan_whole-requires c = record {
   can = (
     large_wholes c.args.types.now c.args.heap.now,
     large-lays c.args.types.now c.args.heap.now c.segments-count.ensures.heap c.requires.held c.requires.no_contexts
@@ -20,12 +20,13 @@ returns-then-next_part-count-clause-planned c = λ m kept memory tests pins.
     c.requires.no_contexts c.requires.laid c.args.bricks.now c.args.pins.now c.requires.bricks c.requires.empty
     c.requires.spare c.segments-count.result c.segments-count.ensures.count c.next_part.result
     c.if-next_part-count.true c.next_part.ensures.takes in
-    let laid = c.lay_whole.ensures.laid w can in
+    let laid = c.plan_whole.ensures.laid w can in
     large-planned c.args.types.now c.args.heap.now c.segments-count.ensures.heap c.requires.held c.requires.no_contexts
-    c.lay_whole.new.heap c.args.bricks.now c.lay_whole.new.bricks c.args.pins.now c.lay_whole.new.queue c.requires.laid
+    c.plan_whole.new.heap c.args.bricks.now c.plan_whole.new.bricks c.args.pins.now c.plan_whole.new.queue
+    c.requires.laid
     (large-laid c.args.types.now c.args.heap.now c.segments-count.ensures.heap c.requires.held c.requires.no_contexts
-    c.lay_whole.new.heap c.args.bricks.now c.lay_whole.new.bricks c.args.pins.now c.lay_whole.new.queue
-    c.lay_whole.result.at c.segments-count.result c.segments-count.ensures.count laid)
+    c.plan_whole.new.heap c.args.bricks.now c.plan_whole.new.bricks c.args.pins.now c.plan_whole.new.queue
+    c.plan_whole.result.at c.segments-count.result c.segments-count.ensures.count laid)
     m kept memory tests pins c.requires.free_heads
 
 pub returns-then-next_part-count-clause-spare : goal.returns-then-next_part-count-clause-spare
@@ -35,7 +36,7 @@ returns-then-next_part-count-clause-spare c =
     c.requires.no_contexts c.requires.laid c.args.bricks.now c.args.pins.now c.requires.bricks c.requires.empty
     c.requires.spare c.segments-count.result c.segments-count.ensures.count c.next_part.result
     c.if-next_part-count.true c.next_part.ensures.takes in
-    let count = (c.lay_whole.ensures.laid w can).laid.count in
+    let count = (c.plan_whole.ensures.laid w can).laid.count in
     let none : length c.args.pins.now.entries ≡ 0 = ap length c.requires.empty in
     omega (arith, count, none)
 
@@ -47,7 +48,7 @@ returns-then-next_part-count-clause-entries c = λ i out.
     c.requires.spare c.segments-count.result c.segments-count.ensures.count c.next_part.result
     c.if-next_part-count.true c.next_part.ensures.takes in
     let all = c.segments-count.ensures.count in
-    (c.lay_whole.ensures.laid w can).laid.entries i (λ t l on. out t (omega (arith, l, all)) on)
+    (c.plan_whole.ensures.laid w can).laid.entries i (λ t l on. out t (omega (arith, l, all)) on)
 
 pub returns-then-next_part-count-clause-spans : goal.returns-then-next_part-count-clause-spans
 returns-then-next_part-count-clause-spans c =
@@ -56,7 +57,7 @@ returns-then-next_part-count-clause-spans c =
     c.requires.no_contexts c.requires.laid c.args.bricks.now c.args.pins.now c.requires.bricks c.requires.empty
     c.requires.spare c.segments-count.result c.segments-count.ensures.count c.next_part.result
     c.if-next_part-count.true c.next_part.ensures.takes in
-    (c.lay_whole.ensures.laid w can).laid.spans_are
+    (c.plan_whole.ensures.laid w can).laid.spans_are
 
 pub returns-else-next_part-count-clause-planned : goal.returns-else-next_part-count-clause-planned
 returns-else-next_part-count-clause-planned c = λ m kept memory tests pins.

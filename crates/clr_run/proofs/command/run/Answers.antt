@@ -11,31 +11,31 @@ use Rattle.clr_run.proofs.command.run.Goals as goal
 
 pub returns-in-Run-clause-headline : goal.returns-in-Run-clause-headline
 returns-in-Run-clause-headline g c = λ options says e.
-    rw (run_options options _ _ _ (c.in-Some.is ∙ ap Some c.in-Run.is) c.options_from.ensures
+    rw (run_options options _ _ (c.in-Some.is ∙ ap Some c.in-Run.is)
     (c.in-Ok.ensures.run options says))
     (c.run_source.ensures.headline e)
 
 pub returns-in-Run-clause-done : goal.returns-in-Run-clause-done
 returns-in-Run-clause-done g c = λ options says e.
-    rw (run_options options _ _ _ (c.in-Some.is ∙ ap Some c.in-Run.is) c.options_from.ensures
+    rw (run_options options _ _ (c.in-Some.is ∙ ap Some c.in-Run.is)
     (c.in-Ok.ensures.run options says))
     (c.run_source.ensures.done e)
 
 pub returns-in-Run-clause-too_much : goal.returns-in-Run-clause-too_much
 returns-in-Run-clause-too_much g c = λ options says e.
-    rw (run_options options _ _ _ (c.in-Some.is ∙ ap Some c.in-Run.is) c.options_from.ensures
+    rw (run_options options _ _ (c.in-Some.is ∙ ap Some c.in-Run.is)
     (c.in-Ok.ensures.run options says))
     (c.run_source.ensures.too_much e)
 
 pub returns-in-Run-clause-read_before : goal.returns-in-Run-clause-read_before
 returns-in-Run-clause-read_before g c = λ options says e.
-    rw (run_options options _ _ _ (c.in-Some.is ∙ ap Some c.in-Run.is) c.options_from.ensures
+    rw (run_options options _ _ (c.in-Some.is ∙ ap Some c.in-Run.is)
     (c.in-Ok.ensures.run options says))
     (c.run_source.ensures.read_before e)
 
 pub returns-in-Run-clause-write_before : goal.returns-in-Run-clause-write_before
 returns-in-Run-clause-write_before g c = λ options says e.
-    rw (run_options options _ _ _ (c.in-Some.is ∙ ap Some c.in-Run.is) c.options_from.ensures
+    rw (run_options options _ _ (c.in-Some.is ∙ ap Some c.in-Run.is)
     (c.in-Ok.ensures.run options says))
     (c.run_source.ensures.write_before e)
 
@@ -70,14 +70,14 @@ returns-in-Run-clause-open_unread g c = λ opens e.
 
 pub returns-in-Soak-clause-soak : goal.returns-in-Soak-clause-soak
 returns-in-Soak-clause-soak g c = λ options seed count says e.
-    let said = soak_options options _ _ _ seed _ count _ (c.in-Some.is ∙ ap Some c.in-Soak.is)
-    c.options_from-in-Soak.ensures (c.in-Ok.ensures.soak options seed count says) in
+    let said = soak_options options _ _ seed _ count _ (c.in-Some.is ∙ ap Some c.in-Soak.is)
+    (c.in-Ok.ensures.soak options seed count says) in
     rw (said.options_are, said.seed_is, said.count_is) (c.soak.ensures.done e)
 
 pub returns-in-Soak-clause-soak_before : goal.returns-in-Soak-clause-soak_before
 returns-in-Soak-clause-soak_before g c = λ options seed count says e.
-    let said = soak_options options _ _ _ seed _ count _ (c.in-Some.is ∙ ap Some c.in-Soak.is)
-    c.options_from-in-Soak.ensures (c.in-Ok.ensures.soak options seed count says) in
+    let said = soak_options options _ _ seed _ count _ (c.in-Some.is ∙ ap Some c.in-Soak.is)
+    (c.in-Ok.ensures.soak options seed count says) in
     rw (said.options_are, said.seed_is, said.count_is) (c.soak.ensures.write_before e)
 
 pub returns-in-Soak-clause-inspect : goal.returns-in-Soak-clause-inspect
@@ -110,7 +110,7 @@ returns-in-Soak-clause-open_unread g c = λ opens e.
 
 pub returns-in-Image-clause-image : goal.returns-in-Image-clause-image
 returns-in-Image-clause-image g c = λ options says.
-    rw (image_options options _ _ _ (c.in-Some.is ∙ ap Some c.in-Image.is) c.options_from-in-Image.ensures
+    rw (image_options options _ _ (c.in-Some.is ∙ ap Some c.in-Image.is)
     (c.in-Ok.ensures.image options says))
     c.image_source.ensures.makes
 

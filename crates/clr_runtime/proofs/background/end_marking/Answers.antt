@@ -5,9 +5,9 @@ use Rattle.clr_model.specs.Machine.{Machine}
 use Rattle.clr_model.specs.Picture.{picture}
 use Rattle.clr_view.specs.World.{IsWorldOf, World}
 use Rattle.clr_survivors.specs.Survivors as survivors
-use Rattle.clr_collect.specs.declared.workshop.Workshop.{Workshop}
+use Rattle.clr_collect.specs.declared.collector.CollectorState.{CollectorState}
 use Rattle.clr_runtime.specs.Marked.{marking_by}
-use Rattle.clr_runtime.specs.Options.{options_of}
+use Rattle.clr_options.specs.Options.{options_of}
 use Rattle.clr_runtime.specs.RuntimeView.{ahead_of, seen, sums_of, world_of}
 use Rattle.clr_runtime.proofs.BackgroundParts.{parts_counted, parts_fronts, parts_log, parts_objects, parts_old}
 use Rattle.clr_runtime.proofs.BackgroundParts.{parts_tiled, parts_whole, runs_seen, same_old}
@@ -78,7 +78,7 @@ returns-clause-ended c =
     (runs_seen p c.requires.runtime c.requires.running) (left_world before)
     c.end_background-collected.result (told before) in
     rw c.collected-parts.ensures
-    (rw (c.end_background-collected.ensures.background, c.end_background-collected.ensures.workshop) (
+    (rw (c.end_background-collected.ensures.background, c.end_background-collected.ensures.collector) (
       marking_by p.background.shades,
       runs_seen p c.requires.runtime c.requires.running,
       after,
@@ -95,7 +95,7 @@ returns-clause-runtime c =
     let tidy = done.ensures.tidy in
     record {
       shown = rw c.collected-parts.ensures
-          (rw (done.ensures.background, done.ensures.workshop)
+          (rw (done.ensures.background, done.ensures.collector)
           (ended_kept c.requires.runtime.shown c.requires.idle (marking_by p.background.shades)
           (runs_seen p c.requires.runtime c.requires.running) (left_world before)
           done.result (told before) tidy.held done.ensures.unmarked tidy.free_heads tidy.clean));
@@ -110,6 +110,6 @@ returns-clause-runtime c =
       large = rw c.lose.ensures tt;
       pinned = rw c.lose-2.ensures tt;
       limit = done.ensures.limit ∙ c.requires.runtime.limit;
-      ready = ready_on p.roots.handles done.new.roots.handles p.workshop.pins done.new.workshop.pins
-          (ap (λ (w : Workshop). w.pins) done.ensures.workshop) done.ensures.pinned c.requires.runtime.ready;
+      ready = ready_on p.roots.handles done.new.roots.handles p.collector.pins done.new.collector.pins
+          (ap (λ (w : CollectorState). w.pins) done.ensures.collector) done.ensures.pinned c.requires.runtime.ready;
     }

@@ -53,14 +53,14 @@ placed c name len measured = record {
   place = c.in_default.ensures.place;
 }
 
-pub bear-requires-clause-item : goal.bear-requires-clause-item
-bear-requires-clause-item c =
-    let at = (goal.at.bear-requires-clause-item c).In_default in
+pub allocate-requires-clause-item : goal.allocate-requires-clause-item
+allocate-requires-clause-item c =
+    let at = (goal.at.allocate-requires-clause-item c).In_default in
     let (name, len, measured) = c.requires.asked in
     makeable c.make_large_room.new.parts.types c.args.local name len c.args.request (asked at name len measured)
 
-pub bear-requires-clause-object : goal.bear-requires-clause-object
-bear-requires-clause-object c =
+pub allocate-requires-clause-object : goal.allocate-requires-clause-object
+allocate-requires-clause-object c =
     let (name, len, measured) = c.requires.asked in
     (known c.args.parts.now.types c.args.local name len c.args.request measured).0
 
@@ -93,11 +93,11 @@ registered c name len measured =
 -- the object is born, with the length that was given
 born : (c : After-register_entry) (name : List ℕ) (len : Option ℕ)
     → IsMeasured c.args.parts.now.types c.args.local name len c.args.request
-    → HasNewbornIn Large c.make_large_room.new.parts.types c.make_large_room.new.parts.space.heap c.bear.new.heap
+    → HasNewbornIn Large c.make_large_room.new.parts.types c.make_large_room.new.parts.space.heap c.allocate.new.heap
     c.in-Some.place c.args.request.type_id.0 (unwrap_or len 0)
 born c name len measured =
     let p = c.make_large_room.new.parts in
-    subst (HasNewbornIn Large p.types p.space.heap c.bear.new.heap c.in-Some.place c.args.request.type_id.0)
+    subst (HasNewbornIn Large p.types p.space.heap c.allocate.new.heap c.in-Some.place c.args.request.type_id.0)
     measured.len_is
     c.in-Some.ensures.born
 
@@ -107,7 +107,7 @@ returns-clause-made c =
     let finals = c.register_entry.new.finals in
     λ name len measured. placed_follows (seen c.args.parts.now) c.in_default.ensures.runtime.shown c.args.t
     c.args.local name len c.args.request.type_id.0 c.args.request.size (placed at.In_default name len measured)
-    c.bear.new.heap c.in-Some.place c.index_of.result finals.entries finals.ready
+    c.allocate.new.heap c.in-Some.place c.index_of.result finals.entries finals.ready
     (born at.After-register_entry name len measured) c.index_of.ensures.index
     (registered at.After-register_entry name len measured) c.register_entry.ensures.ready
 
@@ -117,7 +117,7 @@ returns-clause-runtime c =
     let p = c.make_large_room.new.parts in
     let is = c.in_default.ensures.runtime in
     let type = c.args.request.type_id.0 in
-    let new = c.bear.new in
+    let new = c.allocate.new in
     let done = c.in-Some.ensures in
     let finals = c.register_entry.new.finals in
     let (name, len, measured) = c.requires.asked in
@@ -137,7 +137,7 @@ returns-clause-runtime c =
           let more = c.in_default.ensures.spare in
           omega (arith, entry, same, more)) is.owed c.register_entry.ensures.spare;
       finalizers = is.finalizers;
-      index = index_kept young_items p.types p.types p.space.heap new.heap p.workshop.young
+      index = index_kept young_items p.types p.types p.space.heap new.heap p.collector.young
           (young_placed (seen p) is.shown.sound.lawful Large refl _ c.in-Some.place _ done.born.layout) is.index;
       large = done.index;
       pinned = index_kept (kind_items Pinned) p.types p.types p.space.heap new.heap p.pinned

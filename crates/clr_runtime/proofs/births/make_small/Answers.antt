@@ -59,28 +59,28 @@ roomy c name len measured = record {
   fits = c.in_default.ensures.fits;
 }
 
-pub bear-place-requires-clause-item : goal.bear-place-requires-clause-item
-bear-place-requires-clause-item c =
-    let at = (goal.at.bear-place-requires-clause-item c).In_default in
+pub allocate-place-requires-clause-item : goal.allocate-place-requires-clause-item
+allocate-place-requires-clause-item c =
+    let at = (goal.at.allocate-place-requires-clause-item c).In_default in
     let (name, len, measured) = c.requires.asked in
     makeable c.make_room.new.parts.types c.args.local name len c.args.request (asked at name len measured)
 
-pub bear-place-requires-clause-object : goal.bear-place-requires-clause-object
-bear-place-requires-clause-object c =
+pub allocate-place-requires-clause-object : goal.allocate-place-requires-clause-object
+allocate-place-requires-clause-object c =
     let (name, len, measured) = c.requires.asked in
     (known c.args.parts.now.types c.args.local name len c.args.request measured).0
 
-pub bear-place-requires-clause-size : goal.bear-place-requires-clause-size
-bear-place-requires-clause-size c =
-    let at = (goal.at.bear-place-requires-clause-size c).In_default in
+pub allocate-place-requires-clause-size : goal.allocate-place-requires-clause-size
+allocate-place-requires-clause-size c =
+    let at = (goal.at.allocate-place-requires-clause-size c).In_default in
     let (name, len, measured) = c.requires.asked in
     let there = asked at name len measured in
     let form = form_at c.make_room.new.parts.types c.args.request.type_id.0 in
     there.size_is ∙ ap (size_of form) (sym there.len_is)
 
-pub bear-place-requires-clause-room : goal.bear-place-requires-clause-room
-bear-place-requires-clause-room c =
-    let at = (goal.at.bear-place-requires-clause-room c).In_default in
+pub allocate-place-requires-clause-room : goal.allocate-place-requires-clause-room
+allocate-place-requires-clause-room c =
+    let at = (goal.at.allocate-place-requires-clause-room c).In_default in
     let (name, len, measured) = c.requires.asked in
     let p = c.make_room.new.parts in
     let type = c.args.request.type_id.0 in
@@ -105,29 +105,29 @@ overflow_add-parts c =
 registered : (c : After-register_entry) (name : List ℕ) (len : Option ℕ)
     → IsMeasured c.args.parts.now.types c.args.local name len c.args.request
     → c.register_entry.new.finals.entries
-    ≡ born_entries (seen c.make_room.new.parts) c.args.request.type_id.0 c.bear-place.result
+    ≡ born_entries (seen c.make_room.new.parts) c.args.request.type_id.0 c.allocate-place.result
 registered c name len measured =
     let p = c.make_room.new.parts in
     let type = c.args.request.type_id.0 in
     let final = measured.entry
     ∙ ap (λ (rows : List TypeRow). has_finalizer (type_row rows type)) (sym c.in_default.ensures.types) in
     c.register_entry.ensures.entries
-    ∙ (λ k. if final k then p.roots.finals.entries ++ c.bear-place.result ∷ [] else p.roots.finals.entries)
+    ∙ (λ k. if final k then p.roots.finals.entries ++ c.allocate-place.result ∷ [] else p.roots.finals.entries)
 
 -- the object is born, with the length that was given
 born : (c : After-register_entry) (name : List ℕ) (len : Option ℕ)
     → IsMeasured c.args.parts.now.types c.args.local name len c.args.request
-    → HasNewborn c.make_room.new.parts.types c.make_room.new.parts.space.heap c.bear-place.new.heap c.args.t
+    → HasNewborn c.make_room.new.parts.types c.make_room.new.parts.space.heap c.allocate-place.new.heap c.args.t
     c.args.request.type_id.0 (unwrap_or len 0)
 born c name len measured =
     let p = c.make_room.new.parts in
-    subst (HasNewborn p.types p.space.heap c.bear-place.new.heap c.args.t c.args.request.type_id.0) measured.len_is
-    c.bear-place.ensures.born
+    subst (HasNewborn p.types p.space.heap c.allocate-place.new.heap c.args.t c.args.request.type_id.0) measured.len_is
+    c.allocate-place.ensures.born
 
 pub returns-clause-made : goal.returns-clause-made
 returns-clause-made c =
     let at = goal.at.returns-clause-made c in
-    let done = c.bear-place in
+    let done = c.allocate-place in
     let finals = c.register_entry.new.finals in
     λ name len measured. made_follows (seen c.args.parts.now) c.in_default.ensures.runtime.shown c.args.t c.args.local
     name len c.args.request.type_id.0 c.args.request.size (roomy at.In_default name len measured) done.new.heap
@@ -141,7 +141,7 @@ returns-clause-runtime c =
     let p = c.make_room.new.parts in
     let is = c.in_default.ensures.runtime in
     let type = c.args.request.type_id.0 in
-    let done = c.bear-place in
+    let done = c.allocate-place in
     let finals = c.register_entry.new.finals in
     let (name, len, measured) = c.requires.asked in
     let newborn = born at.After-register_entry name len measured in
@@ -162,7 +162,7 @@ returns-clause-runtime c =
           let more = c.in_default.ensures.spare in
           omega (arith, entry, same, more)) is.owed c.register_entry.ensures.spare;
       finalizers = is.finalizers;
-      index = index_kept young_items p.types p.types p.space.heap done.new.heap p.workshop.young
+      index = index_kept young_items p.types p.types p.space.heap done.new.heap p.collector.young
           (ap young_items done.ensures.born.layout) is.index;
       large = index_kept (kind_items Large) p.types p.types p.space.heap done.new.heap p.large
           (ap (kind_items Large) done.ensures.born.layout) is.large;

@@ -3,7 +3,7 @@ use Rattle.std.proofs.Common.{◌∙◌, ap, arith}
 use Rattle.clr_view.specs.World.{World}
 use Rattle.clr_survivors.specs.Survivors as survivors
 use Rattle.clr_mark.specs.Waiting.{MarkerView}
-use Rattle.clr_runtime.specs.Options.{options_of}
+use Rattle.clr_options.specs.Options.{options_of}
 use Rattle.clr_runtime.specs.RuntimeView.{ahead_of, sums_of, world_of}
 use Rattle.clr_runtime.proofs.CollectLines.{collect_kept, counts_of, first_fits, has_collected, moves_of}
 use Rattle.clr_runtime.proofs.CollectLines.{no_contexts-after}
@@ -27,7 +27,7 @@ told c =
     let p = c.args.parts.now in
     let done = c.collect-collected in
     told_of (world_of p) (sums_of p.sums) (options_of p.options) p.safe (ahead_of p) c.requires.runtime.shown
-    c.requires.idle c.args.g c.args.how (left_world c) done.result p.workshop.slides done.new.workshop.slides
+    c.requires.idle c.args.g c.args.how (left_world c) done.result p.collector.slides done.new.collector.slides
     done.ensures.collected
 
 pub collect-collected-requires-clause-tidy : goal.collect-collected-requires-clause-tidy
@@ -104,7 +104,7 @@ returns-clause-slides c =
     let p = c.args.parts.now in
     let done = c.collect-collected in
     counts_of (world_of p) (sums_of p.sums) (options_of p.options) p.safe (ahead_of p) c.requires.runtime.shown
-    c.requires.idle c.args.g c.args.how (left_world before) done.result p.workshop.slides done.new.workshop.slides
+    c.requires.idle c.args.g c.args.how (left_world before) done.result p.collector.slides done.new.collector.slides
     done.ensures.collected
 
 pub returns-clause-moved : goal.returns-clause-moved
@@ -117,7 +117,7 @@ returns-clause-moved c =
     (rw done.ensures.flag
     (moves_of (world_of p) (sums_of p.sums) (options_of p.options) p.safe (ahead_of p) c.requires.runtime.shown
     c.requires.idle c.args.g c.requires.generation c.args.how c.requires.usual (left_world before) done.result
-    p.workshop.slides done.new.workshop.slides done.ensures.collected)))
+    p.collector.slides done.new.collector.slides done.ensures.collected)))
 
 pub returns-clause-stack : goal.returns-clause-stack
 returns-clause-stack c = ap (λ (m : MarkerView). m.capacity) c.collect-collected.ensures.marker

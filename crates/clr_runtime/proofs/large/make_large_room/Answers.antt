@@ -304,19 +304,19 @@ returns-in-Ok-clause-grew c = λ full. absurd (made-not-refused tt (Acquire Over
 -- the second collection compacted
 pub returns-in-Err-acquire_for-clause-grew : goal.returns-in-Err-acquire_for-clause-grew
 returns-in-Err-acquire_for-clause-grew c = λ full.
-    let start = c.args.parts.now.workshop.slides in
+    let start = c.args.parts.now.collector.slides in
     let first = c.collect_parts in
     let second = c.collect_parts-2 in
     let (after, collects, is) = second.ensures.collected in
-    let one : CountsCollection first.result.compacted start first.new.parts.workshop.slides =
-    subst (λ n. CountsCollection first.result.compacted n first.new.parts.workshop.slides)
+    let one : CountsCollection first.result.compacted start first.new.parts.collector.slides =
+    subst (λ n. CountsCollection first.result.compacted n first.new.parts.collector.slides)
     c.has_room_in_budget.ensures.slides
     first.ensures.slides in
-    let two : Grew c.has_large_room.new.parts.workshop.slides second.new.parts.workshop.slides =
-    surely second.result.compacted c.has_large_room.new.parts.workshop.slides second.new.parts.workshop.slides
+    let two : Grew c.has_large_room.new.parts.collector.slides second.new.parts.collector.slides =
+    surely second.result.compacted c.has_large_room.new.parts.collector.slides second.new.parts.collector.slides
     (compacting (seen c.has_large_room.new.parts) 2 second.result after collects) second.ensures.slides in
-    let last : c.acquire_for.new.parts.workshop.slides ≡ second.new.parts.workshop.slides =
+    let last : c.acquire_for.new.parts.collector.slides ≡ second.new.parts.collector.slides =
     c.in-Err-acquire_for.ensures.slides ∙ c.has_large_room-2.ensures.slides in
     subst (Grew start) (sym last)
-    (grown first.result.compacted start first.new.parts.workshop.slides second.new.parts.workshop.slides one
-    (subst (λ n. Grew n second.new.parts.workshop.slides) c.has_large_room.ensures.slides two))
+    (grown first.result.compacted start first.new.parts.collector.slides second.new.parts.collector.slides one
+    (subst (λ n. Grew n second.new.parts.collector.slides) c.has_large_room.ensures.slides two))

@@ -68,14 +68,14 @@ returns-in-Err-find_or_acquire-clause-grew c = λ full.
     let once = c.collect_parts in
     let last = c.find_or_acquire-2 in
     let (after, collects, is) = once.ensures.collected in
-    let before : CountsCollection once.result.compacted c.args.parts.now.workshop.slides
-    once.new.parts.workshop.slides =
-    subst (λ n. CountsCollection once.result.compacted n once.new.parts.workshop.slides) first.ensures.slides
+    let before : CountsCollection once.result.compacted c.args.parts.now.collector.slides
+    once.new.parts.collector.slides =
+    subst (λ n. CountsCollection once.result.compacted n once.new.parts.collector.slides) first.ensures.slides
     once.ensures.slides
     in
-    let counted = surely once.result.compacted c.args.parts.now.workshop.slides once.new.parts.workshop.slides
+    let counted = surely once.result.compacted c.args.parts.now.collector.slides once.new.parts.collector.slides
     (compacting (seen first.new.parts) 2 once.result after collects) before in
-    subst (Grew c.args.parts.now.workshop.slides) (sym last.ensures.slides) counted
+    subst (Grew c.args.parts.now.collector.slides) (sym last.ensures.slides) counted
 
 pub returns-in-Ok-clause-grew : goal.returns-in-Ok-clause-grew
 returns-in-Ok-clause-grew c = λ full. absurd (made-not-refused tt (Acquire OverLimit) full)

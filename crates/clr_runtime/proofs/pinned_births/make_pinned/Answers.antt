@@ -48,32 +48,32 @@ placed c name len measured = record {
   place = c.in_default.ensures.place;
 }
 
-pub bear-requires-clause-item : goal.bear-requires-clause-item
-bear-requires-clause-item c =
-    let at = (goal.at.bear-requires-clause-item c).In_default in
+pub allocate-requires-clause-item : goal.allocate-requires-clause-item
+allocate-requires-clause-item c =
+    let at = (goal.at.allocate-requires-clause-item c).In_default in
     let (name, len, measured) = c.requires.asked in
     makeable c.make_pinned_room.new.parts.types c.args.local name len c.args.request (asked at name len measured)
 
-pub bear-requires-clause-object : goal.bear-requires-clause-object
-bear-requires-clause-object c =
+pub allocate-requires-clause-object : goal.allocate-requires-clause-object
+allocate-requires-clause-object c =
     let (name, len, measured) = c.requires.asked in
     (known c.args.parts.now.types c.args.local name len c.args.request measured).0
 
 -- the object is born, with the length that was given
 born : (c : In-Some) (name : List ℕ) (len : ℕ)
     → IsMeasuredPinned c.args.parts.now.types c.args.local name len c.args.request
-    → HasNewbornIn Pinned c.make_pinned_room.new.parts.types c.make_pinned_room.new.parts.space.heap c.bear.new.heap
+    → HasNewbornIn Pinned c.make_pinned_room.new.parts.types c.make_pinned_room.new.parts.space.heap c.allocate.new.heap
     c.in-Some.place c.args.request.type_id.0 len
 born c name len measured =
     let p = c.make_pinned_room.new.parts in
-    subst (HasNewbornIn Pinned p.types p.space.heap c.bear.new.heap c.in-Some.place c.args.request.type_id.0)
+    subst (HasNewbornIn Pinned p.types p.space.heap c.allocate.new.heap c.in-Some.place c.args.request.type_id.0)
     measured.len_is c.in-Some.ensures.born
 
 pub returns-clause-made : goal.returns-clause-made
 returns-clause-made c =
     let at = goal.at.returns-clause-made c in
     λ name len measured. pinned_born (seen c.args.parts.now) c.in_default.ensures.runtime.shown c.args.t c.args.local
-    name len c.args.request.type_id.0 c.args.request.size (placed at.In_default name len measured) c.bear.new.heap
+    name len c.args.request.type_id.0 c.args.request.size (placed at.In_default name len measured) c.allocate.new.heap
     c.in-Some.place c.index_of.result (born at.In-Some name len measured) c.index_of.ensures.index
 
 pub returns-clause-runtime : goal.returns-clause-runtime
@@ -82,7 +82,7 @@ returns-clause-runtime c =
     let p = c.make_pinned_room.new.parts in
     let is = c.in_default.ensures.runtime in
     let type = c.args.request.type_id.0 in
-    let new = c.bear.new in
+    let new = c.allocate.new in
     let done = c.in-Some.ensures in
     let (name, len, measured) = c.requires.asked in
     record {
@@ -95,7 +95,7 @@ returns-clause-runtime c =
           p.space.bricks new.bricks done.born done.own_bricks done.bricks done.cards (closed is.shown) is.tables;
       owed = is.owed;
       finalizers = is.finalizers;
-      index = index_kept young_items p.types p.types p.space.heap new.heap p.workshop.young
+      index = index_kept young_items p.types p.types p.space.heap new.heap p.collector.young
           (young_placed (seen p) is.shown.sound.lawful Pinned refl _ c.in-Some.place _ done.born.layout) is.index;
       large = index_kept (kind_items Large) p.types p.types p.space.heap new.heap p.large
           (kind_placed Large Pinned refl (seen p) is.shown.sound.lawful _ c.in-Some.place _ done.born.layout) is.large;

@@ -16,8 +16,8 @@ returns-clause-no_contexts c =
 
 pub returns-clause-slides : goal.returns-clause-slides
 returns-clause-slides c =
-    subst (CountsCollection c.collect_parts-collected.result.compacted c.args.parts.now.workshop.slides)
-    (sym (ap (λ (p : Parts). p.workshop.slides) c.renew_index.ensures.others)) c.collect_parts-collected.ensures.slides
+    subst (CountsCollection c.collect_parts-collected.result.compacted c.args.parts.now.collector.slides)
+    (sym (ap (λ (p : Parts). p.collector.slides) c.renew_index.ensures.others)) c.collect_parts-collected.ensures.slides
 
 pub returns-clause-spare : goal.returns-clause-spare
 returns-clause-spare c =

@@ -9,7 +9,7 @@ use Rattle.clr_runtime.specs.RuntimeView.{seen}
 use Rattle.clr_runtime.specs.Slides.{CountsCollection, Grew}
 use Rattle.clr_runtime.proofs.Counted.{compacting, grown, made-not-refused, surely, wait-not-full}
 use Rattle.clr_runtime.proofs.RefillKept.{thread-idle, thread-known}
-use Rattle.clr_runtime.specs.declared.options.Options.{Options}
+use Rattle.clr_options.specs.declared.options.Options.{Options}
 use Rattle.clr_runtime.specs.declared.parts.Parts.{Parts}
 use Rattle.clr_runtime.proofs.RuntimeKept.{small_enough}
 use Rattle.clr_runtime.proofs.RoomMade.{made_after_first, made_after_full, made_by_sealing, made_in_budget}
@@ -378,19 +378,19 @@ returns-in-Ok-clause-grew c = λ full. absurd (made-not-refused tt (Acquire Over
 -- the second collection compacted
 pub returns-in-Err-refill_by_sealing-clause-grew : goal.returns-in-Err-refill_by_sealing-clause-grew
 returns-in-Err-refill_by_sealing-clause-grew c = λ full.
-    let start = c.args.parts.now.workshop.slides in
+    let start = c.args.parts.now.collector.slides in
     let first = c.collect_for_room in
     let second = c.collect_for_room-2 in
     let (after, collects, is) = second.ensures.collected in
-    let one : CountsCollection first.result.compacted start first.new.parts.workshop.slides =
-    subst (λ n. CountsCollection first.result.compacted n first.new.parts.workshop.slides)
+    let one : CountsCollection first.result.compacted start first.new.parts.collector.slides =
+    subst (λ n. CountsCollection first.result.compacted n first.new.parts.collector.slides)
     c.refill_in_budget.ensures.slides
     first.ensures.slides in
-    let two : Grew c.refill.new.parts.workshop.slides second.new.parts.workshop.slides =
-    surely second.result.compacted c.refill.new.parts.workshop.slides second.new.parts.workshop.slides
+    let two : Grew c.refill.new.parts.collector.slides second.new.parts.collector.slides =
+    surely second.result.compacted c.refill.new.parts.collector.slides second.new.parts.collector.slides
     (compacting (seen c.refill.new.parts) 2 second.result after collects) second.ensures.slides in
-    let last : c.refill_by_sealing.new.parts.workshop.slides ≡ second.new.parts.workshop.slides =
+    let last : c.refill_by_sealing.new.parts.collector.slides ≡ second.new.parts.collector.slides =
     c.in-Err-refill_by_sealing.ensures.slides ∙ c.refill-2.ensures.slides in
     subst (Grew start) (sym last)
-    (grown first.result.compacted start first.new.parts.workshop.slides second.new.parts.workshop.slides one
-    (subst (λ n. Grew n second.new.parts.workshop.slides) c.refill.ensures.slides two))
+    (grown first.result.compacted start first.new.parts.collector.slides second.new.parts.collector.slides one
+    (subst (λ n. Grew n second.new.parts.collector.slides) c.refill.ensures.slides two))

@@ -43,8 +43,8 @@ returns-clause-room c =
 
 pub returns-clause-grew : goal.returns-clause-grew
 returns-clause-grew c = λ full.
-    subst (λ n. Grew n c.find_room.new.parts.workshop.slides)
-    (ap (λ (p : Parts). p.workshop.slides) c.renew_index.ensures.others)
+    subst (λ n. Grew n c.find_room.new.parts.collector.slides)
+    (ap (λ (p : Parts). p.collector.slides) c.renew_index.ensures.others)
     (c.find_room.ensures.grew full)
 
 pub returns-clause-spare : goal.returns-clause-spare

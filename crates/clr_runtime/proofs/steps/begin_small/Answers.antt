@@ -4,7 +4,7 @@ use Rattle.clr_types.specs.Types.{has_finalizer, type_row, TypeRow}
 use Rattle.clr_model.specs.Lookups.{is_step}
 use Rattle.clr_safe.specs.Threads.{begun_by, births_owed, step_by}
 use Rattle.clr_runtime.specs.Births.{IsMeasured}
-use Rattle.clr_runtime.specs.Options.{options_of}
+use Rattle.clr_options.specs.Options.{options_of}
 use Rattle.clr_runtime.specs.RuntimeView.{ahead_of, seen, sums_of, world_of}
 use Rattle.clr_runtime.proofs.BegunBirths.{begin_fails, birth_begun, birth_begun_kept}
 use Rattle.clr_runtime.proofs.BirthDone.{HasItsRoom}

@@ -12,7 +12,7 @@ use Rattle.clr_model.specs.Run.{Follows}
 use Rattle.clr_model.proofs.FrontBirth.{born_entries}
 use Rattle.clr_safe.specs.Threads.{Threads}
 use Rattle.clr_safe.specs.declared.begun.Begun.TheVariants.{Nothing}
-use Rattle.clr_runtime.specs.Options.{options_of}
+use Rattle.clr_options.specs.Options.{options_of}
 use Rattle.clr_runtime.specs.RuntimeView.{ahead_of, IsRuntime, IsToldBy, seen, sums_of, world_of}
 use Rattle.clr_runtime.specs.Shown.{shown}
 use Rattle.clr_runtime.proofs.HeapKept.{born_heap}
@@ -38,21 +38,21 @@ item_size-size-requires-clause-size c =
     birth_most c.args.parts.now c.requires.runtime c.args.t c.requires.thread c.args.type_id c.args.len c.args.local
     c.args.finalizer c.requires.begun
 
-pub bear-place-requires-clause-item : goal.bear-place-requires-clause-item
-bear-place-requires-clause-item c =
+pub allocate-place-requires-clause-item : goal.allocate-place-requires-clause-item
+allocate-place-requires-clause-item c =
     birth_makeable c.args.parts.now c.requires.runtime c.args.t c.requires.thread c.args.type_id c.args.len c.args.local
     c.args.finalizer c.requires.begun
 
-pub bear-place-requires-clause-object : goal.bear-place-requires-clause-object
-bear-place-requires-clause-object c =
+pub allocate-place-requires-clause-object : goal.allocate-place-requires-clause-object
+allocate-place-requires-clause-object c =
     (birth_known c.args.parts.now c.requires.runtime c.args.t c.requires.thread c.args.type_id c.args.len c.args.local
     c.args.finalizer c.requires.begun).0
 
-pub bear-place-requires-clause-size : goal.bear-place-requires-clause-size
-bear-place-requires-clause-size c = c.item_size-size.ensures
+pub allocate-place-requires-clause-size : goal.allocate-place-requires-clause-size
+allocate-place-requires-clause-size c = c.item_size-size.ensures
 
-pub bear-place-requires-clause-room : goal.bear-place-requires-clause-room
-bear-place-requires-clause-room c =
+pub allocate-place-requires-clause-room : goal.allocate-place-requires-clause-room
+allocate-place-requires-clause-room c =
     birth_room c.args.parts.now c.requires.runtime c.args.t c.requires.thread c.args.type_id c.args.len c.args.local
     c.args.finalizer c.requires.begun
 
@@ -78,19 +78,19 @@ overflow_add-parts c =
 -- the entries with the object, where its type has a finaliser
 registered : (c : After-register_entry)
     → c.register_entry.new.finals.entries
-    ≡ born_entries (seen c.args.parts.now) c.args.type_id.0 c.bear-place.result
+    ≡ born_entries (seen c.args.parts.now) c.args.type_id.0 c.allocate-place.result
 registered c =
     let p = c.args.parts.now in
     let final = finalizer-of p.types p.safe c.args.t c.args.type_id c.args.len c.args.local c.args.finalizer
     c.requires.begun c.requires.runtime.finalizers in
     c.register_entry.ensures.entries
-    ∙ (λ k. if final k then p.roots.finals.entries ++ c.bear-place.result ∷ [] else p.roots.finals.entries)
+    ∙ (λ k. if final k then p.roots.finals.entries ++ c.allocate-place.result ∷ [] else p.roots.finals.entries)
 
 pub returns-clause-finished : goal.returns-clause-finished
 returns-clause-finished c =
     let at = goal.at.returns-clause-finished c in
     let p = c.args.parts.now in
-    let done = c.bear-place in
+    let done = c.allocate-place in
     let finals = c.register_entry.new.finals in
     subst (λ (threads : Threads). Follows (seen p) (finish_step c.args.t) (answered (Place done.result))
     (shown (record (world_of p) {
@@ -111,7 +111,7 @@ returns-clause-runtime c =
     let p = c.args.parts.now in
     let is = c.requires.runtime in
     let type = c.args.type_id.0 in
-    let done = c.bear-place in
+    let done = c.allocate-place in
     let finals = c.register_entry.new.finals in
     let size = c.item_size-size.result in
     let next = with_begun p.safe c.args.t Nothing in
@@ -139,7 +139,7 @@ returns-clause-runtime c =
       owed = birth_owed p is c.args.t c.requires.thread c.args.type_id c.args.len c.args.local c.args.finalizer
           c.requires.begun finals.spare c.register_entry.ensures.spare;
       finalizers = finalizers-begun p.types p.safe c.args.t Nothing is.finalizers tt;
-      index = index_kept young_items p.types p.types p.space.heap done.new.heap p.workshop.young
+      index = index_kept young_items p.types p.types p.space.heap done.new.heap p.collector.young
           (ap young_items done.ensures.born.layout) is.index;
       large = index_kept (kind_items Large) p.types p.types p.space.heap done.new.heap p.large
           (ap (kind_items Large) done.ensures.born.layout) is.large;

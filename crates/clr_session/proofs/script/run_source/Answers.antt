@@ -1,6 +1,6 @@
 -- What a run of a script answers: a run over the runtime that was made, from the opening state.
 use Rattle.std.proofs.Common.{arith}
-use Rattle.clr_runtime.specs.Options.{options_of}
+use Rattle.clr_options.specs.Options.{options_of}
 use Rattle.clr_model.specs.Run.{opening}
 use Rattle.clr_session.proofs.SessionSteps.{opening_top}
 use Rattle.clr_session.proofs.script.run_source.Goals as goal

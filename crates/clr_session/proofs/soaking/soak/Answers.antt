@@ -1,6 +1,6 @@
 -- What the run of a generated script answers, from its loop and its summary.
 use Rattle.std.proofs.Common.{◌∙◌, arith}
-use Rattle.clr_runtime.specs.Options.{options_of}
+use Rattle.clr_options.specs.Options.{options_of}
 use Rattle.clr_session.proofs.SessionSteps.{opening_top}
 use Rattle.clr_session.proofs.SoakLoop.{stands_for_last, soaked, cut_short}
 use Rattle.clr_session.proofs.soaking.soak.Goals as goal

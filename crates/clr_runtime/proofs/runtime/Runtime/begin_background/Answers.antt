@@ -5,7 +5,7 @@ use Rattle.clr_runtime.specs.RuntimeView.{seen}
 use Rattle.clr_runtime.proofs.BackgroundLines.{begin_done, begin_lacks, begin_running, begin_waits}
 use Rattle.clr_runtime.proofs.BackgroundParts.{none_marking, runs_is}
 use Rattle.clr_runtime.proofs.NamesChecked.{may_run, thread_refused}
-use Rattle.clr_runtime.proofs.CountsKept.{workshop_kept}
+use Rattle.clr_runtime.proofs.CountsKept.{collector_kept}
 use Rattle.clr_runtime.proofs.runtime.Runtime.begin_background.Goals as goal
 
 pub returns-in-Some-clause-follows : goal.returns-in-Some-clause-follows
@@ -55,9 +55,9 @@ returns-clause-follows c =
 pub returns-in_default-begin_marking-clause-others : goal.returns-in_default-begin_marking-clause-others
 returns-in_default-begin_marking-clause-others c =
     rw (← c.self.view_is)
-    (workshop_kept c.self.inside.parts c.begin_marking.new.parts c.begin_marking.ensures.workshop)
+    (collector_kept c.self.inside.parts c.begin_marking.new.parts c.begin_marking.ensures.collector)
 
 pub returns-clause-others : goal.returns-clause-others
 returns-clause-others c =
     rw (← c.self.view_is)
-    (workshop_kept c.self.inside.parts c.begin_marking.new.parts c.begin_marking.ensures.workshop)
+    (collector_kept c.self.inside.parts c.begin_marking.new.parts c.begin_marking.ensures.collector)

@@ -13,7 +13,7 @@ use Rattle.clr_safe.specs.Threads.{begun_by, step_by, Threads}
 use Rattle.clr_safe.specs.declared.begun.Begun.TheVariants.{Store}
 use Rattle.clr_safe.proofs.Entries.{owed-no_more}
 use Rattle.clr_view.proofs.SlotReads.{reference-word}
-use Rattle.clr_runtime.specs.Options.{options_of}
+use Rattle.clr_options.specs.Options.{options_of}
 use Rattle.clr_runtime.specs.RuntimeView.{ahead_of, IsRuntime, seen, sums_of, world_of}
 use Rattle.clr_runtime.proofs.HeapKept.{stored_heap}
 use Rattle.clr_runtime.proofs.BeginSetLines.{begin_set_of}
@@ -119,7 +119,7 @@ invariant_of-self c =
           c.self.invariant.tables;
       owed = let owed = c.self.invariant.owed in omega (arith, owed, less);
       finalizers = finalizers-begun r.types r.safe c.args.t (Store place c.args.index) c.self.invariant.finalizers tt;
-      index = same_index young_items r.types r.types r.space.heap done.new.heap r.workshop.young stored.layout
+      index = same_index young_items r.types r.types r.space.heap done.new.heap r.collector.young stored.layout
           c.self.invariant.index;
       large = same_index
           (kind_items Large) r.types r.types r.space.heap done.new.heap r.large stored.layout c.self.invariant.large;

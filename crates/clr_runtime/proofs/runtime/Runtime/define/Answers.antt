@@ -3,7 +3,7 @@ use Rattle.clr_types.specs.declared.segment.SegKind.TheVariants.{Large, Pinned}
 use Rattle.clr_types.specs.Types.{form_of}
 use Rattle.clr_ctx.specs.Contexts.{young_items}
 use Rattle.clr_large.specs.Places.{kind_items}
-use Rattle.clr_runtime.specs.Options.{options_of}
+use Rattle.clr_options.specs.Options.{options_of}
 use Rattle.clr_runtime.specs.RuntimeView.{ahead_of, sums_of, world_of}
 use Rattle.clr_model.specs.Step.{new_row}
 use Rattle.clr_runtime.proofs.IndexKept.{defined_index}
@@ -55,7 +55,7 @@ invariant_of-self c =
           (new_row c.args.name.now form c.args.finalizer) c.define.result c.define.ensures.defined c.define.ensures.err
           c.self.invariant.finalizers;
       index = defined_index young_items r.types c.define.new.self r.space.heap
-          (new_row c.args.name.now form c.args.finalizer) c.define.result r.workshop.young
+          (new_row c.args.name.now form c.args.finalizer) c.define.result r.collector.young
           c.self.invariant.shown.held
           c.define.ensures.defined c.define.ensures.err c.self.invariant.index;
       large = defined_index (kind_items Large) r.types c.define.new.self r.space.heap

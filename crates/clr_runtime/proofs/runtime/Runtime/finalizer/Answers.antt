@@ -7,7 +7,7 @@ use Rattle.clr_model.specs.Instructions.{take_ready}
 use Rattle.clr_model.specs.Outcomes.{answered}
 use Rattle.clr_model.specs.Run.{Follows}
 use Rattle.clr_model.proofs.FinalFollows.{take_of}
-use Rattle.clr_runtime.specs.Options.{options_of}
+use Rattle.clr_options.specs.Options.{options_of}
 use Rattle.clr_runtime.specs.RuntimeView.{ahead_of, seen, sums_of, world_of}
 use Rattle.clr_runtime.proofs.FinalizerLines.{take_empty, taken}
 use Rattle.clr_runtime.proofs.NamesChecked.{names_refused, once}

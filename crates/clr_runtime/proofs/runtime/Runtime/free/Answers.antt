@@ -6,7 +6,7 @@ use Rattle.clr_model.specs.declared.Reply.TheVariants.{Done}
 use Rattle.clr_model.specs.Outcomes.{answered, refused}
 use Rattle.clr_model.specs.Run.{Follows}
 use Rattle.clr_runtime.specs.Shown.{shown}
-use Rattle.clr_runtime.specs.Options.{options_of}
+use Rattle.clr_options.specs.Options.{options_of}
 use Rattle.clr_runtime.specs.RuntimeView.{ahead_of, seen, sums_of, world_of}
 use Rattle.clr_runtime.proofs.HandleLines.{free_missing, freed}
 use Rattle.clr_runtime.proofs.PinnedRoom.{ready_freed}
@@ -45,7 +45,7 @@ invariant_of-self c =
       large = c.self.invariant.large;
       pinned = c.self.invariant.pinned;
       limit = c.self.invariant.limit;
-      ready = ready_freed r.roots.handles c.free.new.self c.args.h r.workshop.pins c.free.ensures.table
+      ready = ready_freed r.roots.handles c.free.new.self c.args.h r.collector.pins c.free.ensures.table
           c.self.invariant.ready;
     }
 
@@ -78,7 +78,7 @@ invariant_of-self-2 c =
       large = c.self.invariant.large;
       pinned = c.self.invariant.pinned;
       limit = c.self.invariant.limit;
-      ready = ready_freed r.roots.handles c.free.new.self c.args.h r.workshop.pins c.free.ensures.table
+      ready = ready_freed r.roots.handles c.free.new.self c.args.h r.collector.pins c.free.ensures.table
           c.self.invariant.ready;
     }
 

@@ -8,7 +8,7 @@ use Rattle.clr_types.specs.Kinds.{is_dependent}
 use Rattle.clr_model.specs.Run.{Follows}
 use Rattle.clr_model.proofs.HandleFollows.{create_of}
 use Rattle.clr_runtime.specs.Checks.{names_refusal}
-use Rattle.clr_runtime.specs.Options.{options_of}
+use Rattle.clr_options.specs.Options.{options_of}
 use Rattle.clr_runtime.specs.Outcomes.{handle_outcome}
 use Rattle.clr_runtime.specs.RuntimeView.{ahead_of, seen, sums_of, world_of}
 use Rattle.clr_runtime.proofs.HandleLines.{create_null, create_refused, created, IsCreated, named_once}

@@ -65,7 +65,7 @@ invariant_of-self c =
           c.self.invariant.tables;
       owed = c.self.invariant.owed;
       finalizers = c.self.invariant.finalizers;
-      index = same_index young_items r.types r.types r.space.heap done.new.heap r.workshop.young stored.layout
+      index = same_index young_items r.types r.types r.space.heap done.new.heap r.collector.young stored.layout
           c.self.invariant.index;
       large = same_index
           (kind_items Large) r.types r.types r.space.heap done.new.heap r.large stored.layout c.self.invariant.large;

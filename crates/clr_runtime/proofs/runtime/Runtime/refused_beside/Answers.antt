@@ -1,6 +1,6 @@
 -- The checks, by what the thread has begun and who holds the others.
 use Rattle.std.proofs.Common.{ap, arith, ◌∙◌, sym}
-use Rattle.clr_runtime.specs.Options.{options_of}
+use Rattle.clr_options.specs.Options.{options_of}
 use Rattle.clr_runtime.specs.RuntimeView.{ahead_of, RuntimeView, sums_of, world_of}
 use Rattle.clr_runtime.proofs.QuietThreads.{free_holding, free_unheld, holder-few, refused_held}
 use Rattle.clr_runtime.proofs.QuietThreads.{refused_midway}

@@ -1,6 +1,6 @@
 -- Where all threads rest, none of the checks fails.
 use Rattle.std.proofs.Common.{ap, ◌∙◌, sym}
-use Rattle.clr_runtime.specs.Options.{options_of}
+use Rattle.clr_options.specs.Options.{options_of}
 use Rattle.clr_runtime.specs.RuntimeView.{ahead_of, RuntimeView, sums_of, world_of}
 use Rattle.clr_runtime.proofs.QuietThreads.{none_refused}
 use Rattle.clr_runtime.proofs.runtime.Runtime.refused_thread.Goals as goal

@@ -20,7 +20,7 @@ use Rattle.clr_bgmark.specs.Shades.{BackgroundView}
 use Rattle.clr_model.specs.Instructions.{set_slot}
 use Rattle.clr_model.specs.Run.{Follows}
 use Rattle.clr_view.proofs.SlotReads.{slot-low}
-use Rattle.clr_runtime.specs.Options.{options_of}
+use Rattle.clr_options.specs.Options.{options_of}
 use Rattle.clr_runtime.specs.Shown.{shown}
 use Rattle.clr_runtime.proofs.MarkedStores.{card_logged, IsCardLogged, IsStoredAt, logged-shown, stored_address}
 use Rattle.clr_runtime.proofs.runtime.Runtime.set.Goals.{After-set_reference, After-wrote}
@@ -126,7 +126,7 @@ invariant_of-self c =
           c.self.invariant.tables;
       owed = c.self.invariant.owed;
       finalizers = c.self.invariant.finalizers;
-      index = same_index young_items r.types r.types r.space.heap done.new.heap r.workshop.young stored.layout
+      index = same_index young_items r.types r.types r.space.heap done.new.heap r.collector.young stored.layout
           c.self.invariant.index;
       large = same_index
           (kind_items Large) r.types r.types r.space.heap done.new.heap r.large stored.layout c.self.invariant.large;

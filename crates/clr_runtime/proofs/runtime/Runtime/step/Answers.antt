@@ -3,11 +3,11 @@ use Rattle.std.proofs.Common.{◌≡◌, ◌∙◌, ap, false, sym}
 use Rattle.clr_model.specs.declared.Refusal.TheVariants.{UnknownThread}
 use Rattle.clr_model.specs.Lookups.{is_step, is_thread}
 use Rattle.clr_safe.specs.Threads.{step_by}
-use Rattle.clr_runtime.specs.Options.{options_of}
+use Rattle.clr_options.specs.Options.{options_of}
 use Rattle.clr_runtime.specs.RuntimeView.{ahead_of, sums_of, world_of}
 use Rattle.clr_runtime.proofs.FinishLines.{finish_refused, finish_unknown}
 use Rattle.clr_runtime.proofs.StepsSeen.{step-seen}
-use Rattle.clr_runtime.proofs.CountsKept.{workshop_kept}
+use Rattle.clr_runtime.proofs.CountsKept.{collector_kept}
 use Rattle.clr_runtime.proofs.runtime.Runtime.step.Goals as goal
 
 pub returns-then-not-is_known-clause-follows : goal.returns-then-not-is_known-clause-follows
@@ -28,9 +28,9 @@ returns-in-Nothing-clause-follows c =
 
 pub returns-in-Store-clause-others : goal.returns-in-Store-clause-others
 returns-in-Store-clause-others c =
-    rw (← c.self.view_is) (workshop_kept c.self.inside.parts c.finish_store.new.parts c.finish_store.ensures.workshop)
+    rw (← c.self.view_is) (collector_kept c.self.inside.parts c.finish_store.new.parts c.finish_store.ensures.collector)
 
 pub returns-in-Birth-clause-others : goal.returns-in-Birth-clause-others
 returns-in-Birth-clause-others c =
     rw (← c.self.view_is)
-    (workshop_kept c.self.inside.parts c.finish_birth-place.new.parts c.finish_birth-place.ensures.workshop)
+    (collector_kept c.self.inside.parts c.finish_birth-place.new.parts c.finish_birth-place.ensures.collector)

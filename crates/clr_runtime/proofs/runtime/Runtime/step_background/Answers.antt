@@ -3,7 +3,7 @@ use Rattle.std.proofs.Common.{◌∙◌, ap, not, sym}
 use Rattle.clr_runtime.specs.RuntimeView.{seen}
 use Rattle.clr_runtime.proofs.BackgroundLines.{step_done, step_none}
 use Rattle.clr_runtime.proofs.BackgroundParts.{none_is}
-use Rattle.clr_runtime.proofs.CountsKept.{workshop_kept}
+use Rattle.clr_runtime.proofs.CountsKept.{collector_kept}
 use Rattle.clr_runtime.proofs.runtime.Runtime.step_background.Goals as goal
 
 pub returns-then-not-running-clause-follows : goal.returns-then-not-running-clause-follows
@@ -27,4 +27,4 @@ returns-clause-follows c =
 
 pub returns-clause-others : goal.returns-clause-others
 returns-clause-others c =
-    rw (← c.self.view_is) (workshop_kept c.self.inside.parts c.scan_gray.new.parts c.scan_gray.ensures.workshop)
+    rw (← c.self.view_is) (collector_kept c.self.inside.parts c.scan_gray.new.parts c.scan_gray.ensures.collector)

@@ -12,7 +12,7 @@ use Rattle.clr_model.proofs.FinalFollows.{suppress_of}
 use Rattle.clr_ctx.specs.Contexts.{young_items}
 use Rattle.clr_large.specs.Places.{kind_items}
 use Rattle.clr_runtime.specs.Checks.{names_refusal}
-use Rattle.clr_runtime.specs.Options.{options_of}
+use Rattle.clr_options.specs.Options.{options_of}
 use Rattle.clr_runtime.specs.RuntimeView.{ahead_of, seen, sums_of, world_of}
 use Rattle.clr_runtime.proofs.HeapKept.{flagged_heap}
 use Rattle.clr_runtime.proofs.FinalizerLines.{suppress_null, suppress_plain, suppressed}
@@ -98,7 +98,7 @@ invariant_of-self c =
           c.self.invariant.tables;
       owed = c.self.invariant.owed;
       finalizers = c.self.invariant.finalizers;
-      index = same_index young_items r.types r.types r.space.heap new r.workshop.young set.flagged.layout
+      index = same_index young_items r.types r.types r.space.heap new r.collector.young set.flagged.layout
           c.self.invariant.index;
       large = same_index
           (kind_items Large) r.types r.types r.space.heap new r.large set.flagged.layout c.self.invariant.large;

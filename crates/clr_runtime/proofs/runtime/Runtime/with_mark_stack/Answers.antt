@@ -8,7 +8,7 @@ use Rattle.clr_final.specs.Queues.{Queues}
 use Rattle.clr_view.specs.World.{World}
 use Rattle.clr_ctx.specs.Contexts.{IsIndex, young_items}
 use Rattle.clr_large.specs.Places.{IsKindIndex, kind_items}
-use Rattle.clr_runtime.specs.Options.{options_of}
+use Rattle.clr_options.specs.Options.{options_of}
 use Rattle.clr_runtime.specs.Shown.{Ahead, nothing_ahead}
 use Rattle.clr_runtime.proofs.IndexKept.{first_index}
 use Rattle.clr_runtime.proofs.PinnedRoom.{ready_empty}
@@ -33,13 +33,13 @@ made_world c =
 -- nothing lies ahead
 abbrev made_ahead : After-new-5 → Ahead
 made_ahead c = record {
-  compacts_large = c.in-Ok-first_workshop.workshop.compacts_large;
+  compacts_large = c.in-Ok-first_collector.collector.compacts_large;
   background = c.new-5.result;
 }
 
 made_nothing : (c : After-new-5) → made_ahead c ≡ nothing_ahead
 made_nothing c = λ j. record {
-  compacts_large = c.in-Ok-first_workshop.ensures.compacts_large j;
+  compacts_large = c.in-Ok-first_collector.ensures.compacts_large j;
   background = c.new-5.ensures j;
 }
 
@@ -64,7 +64,7 @@ invariant_of-result c =
     let rows = c.in-Ok.types in
     let space = c.in-Ok-first_space.space in
     let empty = c.in-Ok-first_space.ensures.heap in
-    let workshop = c.in-Ok-first_workshop.ensures in
+    let collector = c.in-Ok-first_collector.ensures in
     let options = c.requires.lawful in
     record {
       shown = new_shown (made_world c) c.new-4.result c.new-4.ensures (made_ahead c) (made_nothing c)
@@ -76,7 +76,7 @@ invariant_of-result c =
           (c.in-Ok-first_space.ensures.tables rows);
       owed = none_owed c.new-4.result c.new-4.ensures _;
       finalizers = none_told c.new-4.result c.new-4.ensures rows;
-      index = subst (λ (i : Option (List Piece)). IsIndex rows space.heap i) (sym workshop.young)
+      index = subst (λ (i : Option (List Piece)). IsIndex rows space.heap i) (sym collector.young)
           (first_index young_items rows space.heap c.args.options.segment _ options.segment_aligned
           c.in-Ok.ensures empty refl);
       large = subst (λ (i : Option (List Piece)). IsKindIndex Large rows space.heap i) (sym c.new-2.ensures)
@@ -86,6 +86,6 @@ invariant_of-result c =
           (first_index (kind_items Pinned) rows space.heap c.args.options.segment _ options.segment_aligned
           c.in-Ok.ensures empty refl);
       limit = ap (λ (h : HeapView). h.limit) empty;
-      ready = ready_empty c.in-Ok-first_roots.roots.handles _ c.in-Ok-first_roots.ensures.handles workshop.saved
-          workshop.spare;
+      ready = ready_empty c.in-Ok-first_roots.roots.handles _ c.in-Ok-first_roots.ensures.handles collector.saved
+          collector.spare;
     }

@@ -1,9 +1,10 @@
-"""Looks in the sources for what pages name: crates, files, definitions, functions, clauses. Run this file.
+"""Looks in the sources for what pages name: crates, files, definitions, functions, clauses, lemmas. Run this file.
 
-The pages are those of docs/, and the README of each crate."""
+The pages are those of docs/, the README of each crate, and that of its proofs where it has one."""
 import re
 import sys
 import unittest
+from functools import cache
 from pathlib import Path
 
 sys.dont_write_bytecode = True
@@ -11,7 +12,8 @@ TOP = Path(__file__).resolve().parent.parent
 CRATES = TOP / "crates"
 NAMES = ("ARCHITECTURE.md", "HEAP.md", "MODEL.md", "PROVED.md", "THEOREM.md")
 PAGES = {name: (TOP / "docs" / name).read_text(encoding="utf-8") for name in NAMES}
-LINKING = [TOP / "README.md", TOP / "bench/README.md", *TOP.glob("docs/*.md"), *TOP.glob("*/*/README.md")]
+PROOFS = [*TOP.glob("crates/*/PROOFS.md")]
+LINKING = [TOP / "README.md", TOP / "bench/README.md", *TOP.glob("docs/*.md"), *TOP.glob("*/*/README.md"), *PROOFS]
 # What pages name of other crates, of tools and of the system.
 BEYOND = {"ArrayVec", "README", "examples", "stdin", "stdout", "tools"}
 
@@ -42,6 +44,19 @@ def is_defined(name, within):
     """Whether a definition, a struct or a function has the name."""
     kinds = "record|data|abbrev|unfoldable|pub|struct|enum|trait|fn|mod"
     return re.search(rf"\b({kinds}) {re.escape(name)}\b", within) is not None
+
+
+def is_lemma(name, within):
+    """Whether a lemma has the name that other files can cite, at the top or in a module of the file."""
+    return re.search(rf"^ *(unfoldable )?pub {re.escape(name)} :", within, re.MULTILINE) is not None
+
+
+@cache
+def cited():
+    """The lemmas that some file of proofs imports, each with its file."""
+    found = re.findall(r"^use Rattle\.(\w+)\.proofs\.(\w+)\.\{(.*)\}$", text(uses(), "proofs"), re.MULTILINE)
+    return {(f"{crate}/proofs/{name}.antt", lemma) for crate, name, all_of_it in found
+            for lemma in all_of_it.split(", ")}
 
 
 def rows(page, columns):
@@ -168,6 +183,35 @@ class Names(unittest.TestCase):
                 with self.subTest(rule=where, file=label, definition=definition):
                     self.assertTrue(is_defined(definition, within))
 
+    def check_lemmas(self, where, told, links):
+        """The words are files of proofs, each linked, and the lemmas that stand there for others to cite."""
+        one = r"\[(clr\w+/proofs/\w+\.antt)\] (`[\w-]+`(?:, `[\w-]+`)*)"
+        self.assertRegex(told, rf"^{one}(?:, {one})*$", where)
+        for label, names in re.findall(one, told):
+            self.assertEqual(links[label], f"../crates/{label}")
+            within = (CRATES / label).read_text(encoding="utf-8")
+            for lemma in re.findall(r"`([\w-]+)`", names):
+                with self.subTest(rule=where, file=label, lemma=lemma):
+                    self.assertTrue(is_lemma(lemma, within))
+                    self.assertIn((label, lemma), cited())
+
+    def test_pages_of_proofs_name_lemmas(self):
+        self.assertGreater(len(PROOFS), 4)
+        for page in PROOFS:
+            crate, told = page.parent.name, page.read_text(encoding="utf-8")
+            self.assertLessEqual(len(told.splitlines()), 60)
+            named = re.findall(r"\[(\w+)\]\(proofs/\1\.antt\)((?: `[\w-]+`,?)+)", re.sub(r"\s+", " ", told))
+            self.assertEqual(len(named), told.count(".antt)"))
+            for name, lemmas in named:
+                within = (page.parent / f"proofs/{name}.antt").read_text(encoding="utf-8")
+                for lemma in re.findall(r"`([\w-]+)`", lemmas):
+                    with self.subTest(crate=crate, file=name, lemma=lemma):
+                        self.assertTrue(is_lemma(lemma, within))
+            there = set(re.findall(r"[\w-]+", text([crate], "src", "specs", "proofs")))
+            for name in re.findall(r"`([^`]+)`", told):
+                with self.subTest(crate=crate, name=name):
+                    self.assertTrue(name in there)
+
     def check_code(self, where, code):
         """Each file that is linked in the words has the functions that stand behind it; and the crates of all."""
         crates = []
@@ -185,10 +229,11 @@ class Names(unittest.TestCase):
         links = dict(re.findall(r"^\[(\S+)\]: (\S+)$", PAGES["MODEL.md"], re.MULTILINE))
         for name, _, places in rules:
             told = places.replace("\n", " ").strip()
-            parts = re.fullmatch(r"Definition: (.*?)\. Code: (.*)\. Clause: (.*)\. Test: (.*)\.", told)
+            parts = re.fullmatch(r"Definition: (.*?)\. Code: (.*)\. Clause: (.*)\. Lemma: (.*)\. Test: (.*)\.", told)
             self.assertTrue(parts, name)
-            defined, code, clauses, tests = parts.groups()
+            defined, code, clauses, lemmas, tests = parts.groups()
             self.check_definitions(name, defined)
+            self.check_lemmas(name, lemmas, links)
             crates = self.check_code(name, code)
             self.check_claim(", ".join(crates), re.sub(r" of `\w+`", "", clauses))
             for label in re.findall(r"\[([^\]]+)\]", tests):
@@ -216,7 +261,7 @@ class Names(unittest.TestCase):
                     self.assertIn(label, there)
 
     def test_lines_outside_of_code_are_short(self):
-        for page in (TOP / "README.md", TOP / "bench/README.md", *TOP.glob("docs/*.md")):
+        for page in (TOP / "README.md", TOP / "bench/README.md", *TOP.glob("docs/*.md"), *PROOFS):
             fenced = re.split(r"^```.*$", page.read_text(encoding="utf-8"), flags=re.MULTILINE)
             for line in "\n".join(fenced[::2]).splitlines():
                 with self.subTest(page=page.name, line=line):

@@ -1,7 +1,7 @@
 #!/usr/bin/env python3
 """Tells the longest line of a script whose heap grows to 220 MiB: a live list of 9,600,000 objects of 24 bytes.
 
-Lines are sent a PIECE at a time, and the next piece when all replies have come. While the list is built, the longest
+Lines are sent for a PIECE of objects at a time, and the next piece when all replies have come. While the list is built, the longest
 piece is told and the middle one, which is what lines take without a collection. Then each kind of collection is a piece
 of one line. Times are the program's own on a processor. A second program that takes the same scripts stands beside.
 
@@ -14,8 +14,9 @@ import growth
 from programs import command_line
 
 OBJECTS, PIECE = 9_600_000, 1_000
-CORE, OPTIONS = "2", ["--limit", "1073741824", "--segment", "67108864"]
-BUILD = "t1 new l1 Node\nt1 set l1 0 l0\nt1 copy l0 l1\n"
+CORE, OPTIONS = "2", ["--limit", "1073741824", "--segment", "67108864", "--b2", "67108864"]
+# Two objects. Lines are short, as a script has at most 256 MiB.
+BUILD = "t1 new l1 N\nt1 set l1 0 l0\nt1 new l0 N\nt1 set l0 0 l1\n"
 LINES = {
     "a young collection": "t1 collect 0 sweeping",
     "a full sweep": "t1 collect 2 sweeping",
@@ -33,6 +34,7 @@ def longest(run, lines, count):
     spent, before = [], run.seconds()
     for _ in range(count):
         if not run.answer(lines):
+            run.end()
             sys.exit("latency.py: the program ended early")
         now = run.seconds()
         spent.append(now - before)
@@ -45,9 +47,9 @@ def measured(program):
     """A pair of words and seconds for each kind of line."""
     growth.SECONDS = 900    # the list alone takes some ten of them
     run = growth.Run(program, OPTIONS, CORE)
-    longest(run, b"type Node class r\n", 1)
-    most, middle = longest(run, (BUILD * PIECE).encode(), OBJECTS // PIECE)
-    found = [("the longest of all that build the list", most - middle), (f"{3 * PIECE:,} lines that do", middle)]
+    longest(run, b"type N class r\n", 1)
+    most, middle = longest(run, (BUILD * (PIECE // 2)).encode(), OBJECTS // PIECE)
+    found = [("the longest of all that build the list", most - middle), (f"{2 * PIECE:,} lines that do", middle)]
     for name, line in LINES.items():
         if name.startswith("the last pause"):
             run.answer(f"background step {OBJECTS}\n".encode())

@@ -27,7 +27,7 @@ use crate::last_pause::mark_found;
 use crate::part::Part;
 use crate::pending::Pending;
 use crate::shade::{Bit, Shade};
-use crate::shades::{colour_in, find, find_near, logged_in, set_bit_at, set_bit_in};
+use crate::shades::{colour_in, find, find_near, logged_in, set_bit_in, set_bit_near};
 use clr_handles::Handles;
 use clr_heap::Heap;
 use clr_mark::{Marker, RunKind};
@@ -75,6 +75,8 @@ pub struct Background {
     gray: u64,
     parts: Vec<Part>,
     fronts: Vec<Front>,
+    // The number of the segment of the last store, a guess for the next one.
+    recent: usize,
 }
 
 impl Model for Background {
@@ -106,6 +108,7 @@ impl Background {
             gray: 0,
             parts: Vec::new(alloc),
             fronts: Vec::new(alloc),
+            recent: 0,
         }
     }
 
@@ -155,7 +158,8 @@ impl Background {
             ≡ ((is_covered self.old.shades slot && nat_eq (a / 2048) (slot / 2048)) || is_logged self.old.shades a) }
         ensures colours { (a : ℕ) → colour_at self.new.shades a ≡ colour_at self.old.shades a }
     {
-        set_bit_at(&mut self.shades, Bit::Logged, slot);
+        let near = set_bit_near(&mut self.shades, self.recent, Bit::Logged, slot);
+        self.recent = near;
     }
 
     /// The first pause: takes all objects of generation 2. Those that locals, the f-reachable queue or strong and

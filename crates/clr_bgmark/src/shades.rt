@@ -148,13 +148,18 @@ pub(crate) fn take_gray(shades: &mut Vec<Shade>, pending: &mut Pending) -> Optio
     None
 }
 
-/// Sets a bit of an address, where its segment is there.
-pub(crate) fn set_bit_at(shades: &mut Vec<Shade>, bit: Bit, a: u64)
+/// Sets a bit of an address, where its segment is there: it is looked for at once where that is `near`, a guess. It
+/// answers the guess for the next address.
+pub(crate) fn set_bit_near(shades: &mut Vec<Shade>, near: usize, bit: Bit, a: u64) -> usize
     requires { IsBackground shades.old.items }
     ensures { shades.new.items ≡ changed_at a (with_set bit a) shades.old.items }
 {
-    if let Some(k) = find(shades, a) {
-        set_bit_in(shades, k, bit, a);
+    match find_near(shades, near, a) {
+        Some(k) => {
+            set_bit_in(shades, k, bit, a);
+            k
+        }
+        None => near,
     }
 }
 

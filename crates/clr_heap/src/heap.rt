@@ -7,6 +7,7 @@ ghost use Rattle.clr_heap.specs.Memories.{first_memory};
 ghost use Rattle.clr_heap.specs.View.{no_rests};
 
 pub use crate::heap::draft::{HeapDraft, SegmentHead};
+use crate::heap::segment_map::SegmentMap;
 pub use crate::heap::segments::AcquireFault;
 use clr_mem::{Mem, NoMemory};
 use clr_types::{FIRST_OFFSET, SegInfo, SegKind, Span};
@@ -16,6 +17,7 @@ use std::marker::Model;
 mod contexts;
 mod draft;
 mod rest;
+mod segment_map;
 mod segments;
 mod words;
 
@@ -39,6 +41,7 @@ pub struct Heap {
     ephemeral_end: u64,
     // A guess of the number of the ephemeral segment, where most words are.
     near: usize,
+    map: SegmentMap,
 }
 
 impl Model for Heap {
@@ -83,6 +86,8 @@ impl Heap {
         let memories = first_memories(alloc, segment)?;
         let segments = first_segments(alloc, segment)?;
         let rests = no_contexts(alloc)?;
+        let mut map = SegmentMap::new(alloc)?;
+        map.enter_all(&segments);
         let first = FIRST_BASE + FIRST_OFFSET;
         Ok(Heap {
             alloc,
@@ -96,6 +101,7 @@ impl Heap {
             ephemeral_first: first,
             ephemeral_end: FIRST_BASE + segment,
             near: 0,
+            map,
         })
     }
 

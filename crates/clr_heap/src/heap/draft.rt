@@ -7,6 +7,7 @@ ghost use Rattle.clr_types.specs.declared.segment.SegInfo.{SegInfo as Segment};
 ghost use Rattle.clr_heap.specs.Drafts.{drafted, empty_heap, has_kind, is_young, IsNextHead};
 ghost use Rattle.clr_heap.specs.Memories.{shape_of};
 
+use super::segment_map::SegmentMap;
 use super::segments::{push_both, reserve_both};
 use super::{Heap, no_contexts};
 use clr_mem::{Mem, NoMemory};
@@ -39,6 +40,7 @@ pub struct HeapDraft {
     start0: u64,
     top: u64,
     limit: u64,
+    map: SegmentMap,
 }
 
 impl Model for HeapDraft {
@@ -81,8 +83,10 @@ impl HeapDraft {
         ensures { IfOk result (λ draft. draft ≡ empty_heap limit) }
     {
         let rests = no_contexts(alloc)?;
+        let map = SegmentMap::new(alloc)?;
         Ok(HeapDraft {
             alloc,
+            map,
             memories: Vec::new(alloc),
             segments: Vec::new(alloc),
             rests,
@@ -150,6 +154,7 @@ impl HeapDraft {
         ensures err { OnErr result (self.new ≡ self.old) }
     {
         reserve_both(&mut self.memories, &mut self.segments)?;
+        self.map.enter(head.info, self.segments.len());
         push_both(&mut self.memories, &mut self.segments, memory, head.info);
         (self.start1, self.start0) = boundaries_with(&head, self.start1, self.start0);
         self.top = head.info.base + head.info.reserved;
@@ -180,6 +185,7 @@ impl HeapDraft {
             ephemeral_first: young.base + FIRST_OFFSET,
             ephemeral_end: young.base + young.reserved,
             near: 0,
+            map: self.map,
         }
     }
 }

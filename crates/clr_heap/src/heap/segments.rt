@@ -71,6 +71,7 @@ impl Heap {
         reserve_both(&mut self.memories, &mut self.segments)?;
         let k = self.segments.len();
         let segment = SegInfo::empty(kind, base, size);
+        self.map.enter(segment, k);
         if kind == SegKind::Ephemeral {
             seal(&mut self.segments);
             push_both(&mut self.memories, &mut self.segments, memory, segment);
@@ -98,6 +99,7 @@ impl Heap {
         let _ = self.memories.remove(k);
         let _ = self.segments.remove(k);
         self.near = near_without(self.near, k);
+        self.map.enter_all(&self.segments);
     }
 }
 

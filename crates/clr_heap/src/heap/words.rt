@@ -6,6 +6,7 @@ ghost use Rattle.clr_heap.specs.Memories.{clears, contains, HasWord, InOne, IsAp
 ghost use Rattle.clr_heap.specs.Memories.{store_in, word_address, word_in};
 
 use super::Heap;
+use super::segment_map::SegmentMap;
 use clr_mem::Mem;
 
 impl Heap {
@@ -18,7 +19,7 @@ impl Heap {
         ensures value { result ≡ word_of self.now a }
         ensures room { a + 8 < 2 ^ 64 }
     {
-        word_of_memories(&self.memories, self.near, a)
+        word_of_memories(&self.memories, self.near, &self.map, a)
     }
 
     /// The word at an address of segment `k`, faster than `word`.
@@ -64,7 +65,7 @@ impl Heap {
         ensures value { self.new ≡ stored self.old a v }
         ensures room { a + 8 < 2 ^ 64 }
     {
-        set_word_of_memories(&mut self.memories, self.near, a, v);
+        set_word_of_memories(&mut self.memories, self.near, &self.map, a, v);
     }
 
     /// Writes the word at an address of segment `k`, faster than `set_word`.
@@ -83,7 +84,7 @@ impl Heap {
         requires { HasWord self.now.memories (word_address a) }
         ensures { result ≡ byte_of (word_of self.now (word_address a)) (a % 8) }
     {
-        byte_of_memories(&self.memories, self.near, a)
+        byte_of_memories(&self.memories, self.near, &self.map, a)
     }
 
     /// Writes the byte at an address.
@@ -93,7 +94,7 @@ impl Heap {
         ensures { self.new
             ≡ stored self.old (word_address a) (with_byte (word_of self.old (word_address a)) (a % 8) v) }
     {
-        set_byte_of_memories(&mut self.memories, self.near, a, v);
+        set_byte_of_memories(&mut self.memories, self.near, &self.map, a, v);
     }
 
     /// Moves the words of `[from, from + len)` down to `[to, to + len)`. All other words stay.
@@ -104,7 +105,7 @@ impl Heap {
         ensures shape { SameShape self.old self.new }
         ensures words { (b : ℕ) → b % 8 ≡ 0 → word_of self.new b ≡ moves from to len (word_of self.old) b }
     {
-        move_in_memories(&mut self.memories, self.near, from, to, len);
+        move_in_memories(&mut self.memories, self.near, &self.map, from, to, len);
     }
 
     /// Clears the words of `[a, a + len)`. All other words stay.
@@ -113,7 +114,7 @@ impl Heap {
         ensures shape { SameShape self.old self.new }
         ensures words { (b : ℕ) → b % 8 ≡ 0 → word_of self.new b ≡ clears a len (word_of self.old) b }
     {
-        clear_in_memories(&mut self.memories, self.near, a, len);
+        clear_in_memories(&mut self.memories, self.near, &self.map, a, len);
     }
 
     /// The number of the segment that an address lies in.
@@ -122,7 +123,7 @@ impl Heap {
         requires { HasWord self.now.memories a }
         ensures { result ≡ memory_index self.now.memories a }
     {
-        find(&self.memories, self.near, a)
+        find(&self.memories, self.near, &self.map, a)
     }
 
     /// The number of the segment that an address lies in, at once where that is `near`, a guess: most references of an
@@ -132,7 +133,7 @@ impl Heap {
         requires { HasWord self.now.memories a }
         ensures { result ≡ memory_index self.now.memories a }
     {
-        find(&self.memories, near, a)
+        find(&self.memories, near, &self.map, a)
     }
 }
 
@@ -151,7 +152,7 @@ fn is_in(memories: &Vec<Mem>, k: usize, a: u64) -> bool
 
 // The number of the memory that an address lies in, at once where that is `near`, a guess.
 #[inline(always)]
-fn find(memories: &Vec<Mem>, near: usize, a: u64) -> usize
+fn find(memories: &Vec<Mem>, near: usize, map: &SegmentMap, a: u64) -> usize
     requires word { HasWord memories.now.items a }
     requires apart { IsApart (shapes memories.now.items) }
     ensures index { result ≡ memory_index memories.now.items a }
@@ -160,14 +161,33 @@ fn find(memories: &Vec<Mem>, near: usize, a: u64) -> usize
     ensures room { a + 8 < 2 ^ 64 }
 {
     if !is_in(memories, near, a) {
-        return search(memories, a);
+        return look_up(memories, map.guess(a), a);
     }
     let memory = &memories[near];
     let _ = memory.len();
     near
 }
 
+// The number of the memory that an address lies in, at once where that is `guess`, and else by a search.
+#[inline(never)]
+fn look_up(memories: &Vec<Mem>, guess: usize, a: u64) -> usize
+    requires word { HasWord memories.now.items a }
+    requires apart { IsApart (shapes memories.now.items) }
+    ensures index { result ≡ memory_index memories.now.items a }
+    ensures word { (d : _) → Holds (get_or memories.now.items result d) a 8 }
+    ensures aligned { (d : _) → (get_or memories.now.items result d).base % 8 ≡ 0 }
+    ensures room { a + 8 < 2 ^ 64 }
+{
+    if !is_in(memories, guess, a) {
+        return search(memories, a);
+    }
+    let memory = &memories[guess];
+    let _ = memory.len();
+    guess
+}
+
 // The number of the memory that an address lies in, by a search.
+#[cold]
 #[inline(never)]
 fn search(memories: &Vec<Mem>, a: u64) -> usize
     requires word { HasWord memories.now.items a }
@@ -194,13 +214,13 @@ fn search(memories: &Vec<Mem>, a: u64) -> usize
 }
 
 #[inline(always)]
-fn word_of_memories(memories: &Vec<Mem>, near: usize, a: u64) -> u64
+fn word_of_memories(memories: &Vec<Mem>, near: usize, map: &SegmentMap, a: u64) -> u64
     requires word { HasWord memories.now.items a }
     requires apart { IsApart (shapes memories.now.items) }
     ensures value { result ≡ word_in memories.now.items a }
     ensures room { a + 8 < 2 ^ 64 }
 {
-    let k = find(memories, near, a);
+    let k = find(memories, near, map, a);
     let memory = &memories[k];
     memory.word(a)
 }
@@ -249,7 +269,7 @@ fn set_word_in_memory(memories: &mut Vec<Mem>, k: usize, a: u64, v: u64)
 }
 
 #[inline(always)]
-fn set_word_of_memories(memories: &mut Vec<Mem>, near: usize, a: u64, v: u64)
+fn set_word_of_memories(memories: &mut Vec<Mem>, near: usize, map: &SegmentMap, a: u64, v: u64)
     requires word { HasWord memories.old.items a }
     requires apart { IsApart (shapes memories.old.items) }
     ensures items { memories.new.items ≡ store_in memories.old.items a v }
@@ -257,24 +277,24 @@ fn set_word_of_memories(memories: &mut Vec<Mem>, near: usize, a: u64, v: u64)
     ensures shapes { shapes memories.new.items ≡ shapes memories.old.items }
     ensures room { a + 8 < 2 ^ 64 }
 {
-    let k = find(memories, near, a);
+    let k = find(memories, near, map, a);
     let memory = &mut memories[k];
     memory.set_word(a, v);
 }
 
 #[inline(always)]
-fn byte_of_memories(memories: &Vec<Mem>, near: usize, a: u64) -> u8
+fn byte_of_memories(memories: &Vec<Mem>, near: usize, map: &SegmentMap, a: u64) -> u8
     requires word { HasWord memories.now.items (word_address a) }
     requires apart { IsApart (shapes memories.now.items) }
     ensures { result ≡ byte_of (word_in memories.now.items (word_address a)) (a % 8) }
 {
-    let k = find(memories, near, a / 8 * 8);
+    let k = find(memories, near, map, a / 8 * 8);
     let memory = &memories[k];
     memory.byte(a)
 }
 
 #[inline(always)]
-fn set_byte_of_memories(memories: &mut Vec<Mem>, near: usize, a: u64, v: u8)
+fn set_byte_of_memories(memories: &mut Vec<Mem>, near: usize, map: &SegmentMap, a: u64, v: u8)
     requires word { HasWord memories.old.items (word_address a) }
     requires apart { IsApart (shapes memories.old.items) }
     ensures items { memories.new.items
@@ -282,12 +302,19 @@ fn set_byte_of_memories(memories: &mut Vec<Mem>, near: usize, a: u64, v: u8)
         (with_byte (word_in memories.old.items (word_address a)) (a % 8) v) }
     ensures shapes { shapes memories.new.items ≡ shapes memories.old.items }
 {
-    let k = find(memories, near, a / 8 * 8);
+    let k = find(memories, near, map, a / 8 * 8);
     let memory = &mut memories[k];
     memory.set_byte(a, v);
 }
 
-fn move_in_memories(memories: &mut Vec<Mem>, near: usize, from: u64, to: u64, len: u64)
+fn move_in_memories(
+    memories: &mut Vec<Mem>,
+    near: usize,
+    map: &SegmentMap,
+    from: u64,
+    to: u64,
+    len: u64,
+)
     requires from_in { InOne memories.old.items from len }
     requires to_in { InOne memories.old.items to len }
     requires down { to ≤ from }
@@ -297,8 +324,8 @@ fn move_in_memories(memories: &mut Vec<Mem>, near: usize, from: u64, to: u64, le
     ensures shapes { shapes memories.new.items ≡ shapes memories.old.items }
     ensures len { length memories.new.items ≡ length memories.old.items }
 {
-    let low = find(memories, near, to);
-    let high = find(memories, near, from);
+    let low = find(memories, near, map, to);
+    let high = find(memories, near, map, from);
     if low == high {
         slide_in(memories, low, from, to, len);
     } else {
@@ -333,14 +360,14 @@ fn carry_between(memories: &mut Vec<Mem>, low: usize, high: usize, from: u64, to
     target.carry(to, &back[0], from, len);
 }
 
-fn clear_in_memories(memories: &mut Vec<Mem>, near: usize, a: u64, len: u64)
+fn clear_in_memories(memories: &mut Vec<Mem>, near: usize, map: &SegmentMap, a: u64, len: u64)
     requires held { InOne memories.old.items a len }
     requires apart { IsApart (shapes memories.old.items) }
     ensures words { (b : ℕ) → b % 8 ≡ 0 → word_in memories.new.items b ≡ clears a len (word_in memories.old.items) b }
     ensures shapes { shapes memories.new.items ≡ shapes memories.old.items }
     ensures len { length memories.new.items ≡ length memories.old.items }
 {
-    let k = find(memories, near, a);
+    let k = find(memories, near, map, a);
     clear_in(memories, k, a, len);
 }
 

@@ -1,8 +1,0 @@
-use Rattle.std.proofs.Common.{sym}
-use Rattle.clr_bgmark.specs.Shades.{with_set}
-use Rattle.clr_bgmark.proofs.Lookups.{none_changed}
-use Rattle.clr_bgmark.proofs.shades.set_bit_at.Goals as goal
-
-pub returns-in_default : goal.returns-in_default
-returns-in_default c =
-    sym (none_changed (with_set c.args.bit c.args.a) c.args.shades.now.items c.args.a c.in_default.ensures.none)

@@ -50,6 +50,13 @@ hop-within far some = elim (cases_lt far 32767) [
   | inr more ↦ rw (le-ltb far 32767 more) (omega arith, omega arith)
 ]
 
+-- and it goes all the way, if that isn't further
+pub hop-near : (far : ℕ) → far ≤ 32767 → hop far ≡ far
+hop-near far near = elim (cases_lt far 32767) [
+  | inl below ↦ rw (lt-ltb far 32767 below) refl
+  | inr more ↦ rw (le-ltb far 32767 more) (omega arith)
+]
+
 -- an entry that has the bits of a number below 0 leads back so far
 pub back-by-bits : (z : ℤ) (back : ℕ) → FitsSigned w16 z → 1 ≤ back → back ≤ 32767
     → eqb (of_z w16 z) (of_z w16 (pos 0 -ℤ to_z w16 back)) ≡ true → z ≡ back_entry back

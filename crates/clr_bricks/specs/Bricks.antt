@@ -24,6 +24,10 @@ abbrev pub led_back : (ℕ → ℤ) → ℕ → ℕ → ℕ → ℤ
 led_back entry next to brick =
     if nat_le next brick && nat_lt brick to then back_entry (hop (brick + 1 - next)) else entry brick
 
+-- the entries of the bricks of [next, to) lead back so already
+abbrev pub AreLedBack : (ℕ → ℤ) → ℕ → ℕ → Type 0
+AreLedBack entry next to = (i : ℕ) → next ≤ i → i < to → entry i ≡ back_entry (hop (i + 1 - next))
+
 -- the bricks of [base, base + len), without entries
 abbrev pub new_bricks : ℕ → ℕ → CoverView ℤ
 new_bricks base len = cover_of (base / 4096) (same_values (pos 0) (len / 4096))

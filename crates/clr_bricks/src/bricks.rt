@@ -5,9 +5,8 @@ ghost use Rattle.std.specs.Prelude.{OnErr, OnOk};
 ghost use Rattle.std.specs.List.{remove};
 ghost use Rattle.clr_covers.specs.Covers.{AreApart, begins, has_unit, is_covered, IsFree, share_cover, spans};
 ghost use Rattle.clr_covers.specs.Covers.{with_cover, with_value, without_cover};
-ghost use Rattle.clr_bricks.specs.Bricks as specs;
-ghost use Rattle.clr_bricks.specs.Bricks.{back_entry, entry_at, IsRoot, LeadsNowhere, LeadsToRoot, led_back};
-ghost use Rattle.clr_bricks.specs.Bricks.{new_bricks, root_entry, StopsAt};
+ghost use Rattle.clr_bricks.specs.Bricks.{AreLedBack, back_entry, entry_at, IsRoot, LeadsNowhere, LeadsToRoot};
+ghost use Rattle.clr_bricks.specs.Bricks.{led_back, new_bricks, root_entry, StopsAt};
 
 use crate::NoMemory;
 use crate::leading::{count_led, hop};
@@ -22,8 +21,8 @@ use std::sync::ledger::Ledger;
 /// brick, or negative: how many bricks to go back. Clauses see the covers, by rising address, and each brick by its
 /// number, that of its 4,096 bytes.
 ///
-/// The calls look first where an entry was written last. Those that take `near`, a guess of the number of the cover,
-/// look there first.
+/// The calls look first where an entry was written or expected last. Those that take `near`, a guess of the number of
+/// the cover, look there first.
 #[derive(Drop)]
 pub struct Bricks {
     covers: Covers<i16>,
@@ -87,6 +86,14 @@ impl Bricks {
         self.covers.remove(Grid::<4096>::index(base));
     }
 
+    /// Makes the cover that has a brick the one where the calls look first. All entries stay.
+    pub fn expect(&mut self, brick: u64)
+        requires { is_covered self.old brick ≡ true }
+        ensures { self.new ≡ self.old }
+    {
+        self.covers.expect(brick);
+    }
+
     /// Lets a brick name an offset, in bytes from its first address. All other entries stay.
     #[inline(never)]
     pub fn set_root(&mut self, brick: u64, offset: u16)
@@ -122,9 +129,39 @@ impl Bricks {
         ensures entries { (i : ℕ) → entry_at self.new i ≡ led_back (entry_at self.old) from past i }
         ensures spans { spans self.new ≡ spans self.old }
     {
-        for brick in self.led_up_to(from, past)..past {
+        let led = self.led_up_to(from, past);
+        self.lead_on(from, led, past);
+    }
+
+    /// Lets the bricks from `from` to below `past` lead back to the one below `from`, as `lead_back` does, where those
+    /// below `led` lead there already: they cost nothing. All other entries stay.
+    pub fn lead_on(&mut self, from: u64, led: u64, past: u64)
+        requires low { from ≤ led }
+        requires high { led ≤ past }
+        requires shared { led < past → share_cover self.old from (past - 1) ≡ true }
+        requires led { AreLedBack (entry_at self.old) from led }
+        ensures entries { (i : ℕ) → entry_at self.new i ≡ led_back (entry_at self.old) from past i }
+        ensures spans { spans self.new ≡ spans self.old }
+    {
+        for brick in led..past {
             self.set_back(brick, hop(brick - from + 1));
         }
+    }
+
+    /// The first brick from `from` on and below `past` that doesn't lead back to the one below `from`, and `past` where
+    /// each does. One cover has them all. It costs a compare for each brick that it passes.
+    pub fn led_up_to(&self, from: u64, past: u64) -> u64
+        requires order { from ≤ past }
+        requires shared { from < past → share_cover self.now from (past - 1) ≡ true }
+        ensures low { from ≤ result }
+        ensures high { result ≤ past }
+        ensures led { AreLedBack (entry_at self.now) from result }
+    {
+        if from == past {
+            return past;
+        }
+        let entries = self.covers.values(self.covers.recent(), from, past);
+        from + count_led(entries) as u64
     }
 
     /// Takes a brick's entry away. All other entries stay.
@@ -215,22 +252,6 @@ impl Bricks {
         let from = Grid::<4096>::index(a);
         let k = self.covers.locate(near, from);
         search(&self.covers, k, from, steps)
-    }
-
-    // The first brick from `from` on and below `past` that doesn't lead back to the one below `from`, and `past` where
-    // each does.
-    fn led_up_to(&self, from: u64, past: u64) -> u64
-        requires order { from ≤ past }
-        requires shared { from < past → share_cover self.now from (past - 1) ≡ true }
-        ensures low { from ≤ result }
-        ensures high { result ≤ past }
-        ensures led { (i : ℕ) → from ≤ i → i < result → entry_at self.now i ≡ back_entry (specs.hop (i + 1 - from)) }
-    {
-        if from == past {
-            return past;
-        }
-        let entries = self.covers.values(self.covers.recent(), from, past);
-        from + count_led(entries) as u64
     }
 
     // Gives a brick an entry.

@@ -36,7 +36,7 @@ impl<T> Model for Cover<T> {
 pub struct Covers<T> {
     alloc: Global,
     covers: Vec<Cover<T>>,
-    // The number of the cover that was written last.
+    // The number of the cover that was written or expected last.
     recent: usize,
 }
 
@@ -109,10 +109,21 @@ impl<T: Copy + Drop> Covers<T> {
         take_out(&mut self.covers, first);
     }
 
-    /// The number of the cover that was written last, as a guess for the calls on one unit.
+    /// The number of the cover that was written or expected last, as a guess for the calls on one unit.
     #[inline]
     pub fn recent(&self) -> usize {
         self.recent
+    }
+
+    /// Makes the cover that has unit `i` the recent one, so that reads that follow there need no search. The one behind
+    /// the recent cover is tried first. All units stay.
+    pub fn expect(&mut self, i: u64)
+        requires { is_covered self.old i ≡ true }
+        ensures { self.new ≡ self.old }
+    {
+        if !is_in(&self.covers, self.recent, i) {
+            self.recent = self.locate(self.recent.wrapping_add(1), i);
+        }
     }
 
     /// The value of unit `i`.

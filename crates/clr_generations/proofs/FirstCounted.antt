@@ -12,7 +12,7 @@ use Rattle.clr_types.specs.declared.segment.SegInfo.{SegInfo}
 use Rattle.clr_types.specs.declared.segment.SegKind.TheVariants.{Ephemeral}
 use Rattle.clr_types.proofs.ListMembers.{append_right}
 use Rattle.clr_types.proofs.RisingLists.{in_cons}
-use Rattle.clr_bricks.specs.Bricks.{IsRoot}
+use Rattle.clr_bricks.specs.Bricks.{IsRoot, root_entry}
 use Rattle.clr_heap.specs.Memories.{memory_index}
 use Rattle.clr_heap.specs.Parts.{hole_from, item_at, item_part, items_in, Part, parts, rest_part, Sight, Spells}
 use Rattle.clr_heap.specs.View.{first_of, HasItem, heap_items, HeapView, holes_of, IsHeap}
@@ -293,6 +293,28 @@ module _ (rows : List TypeRow) (h : HeapView) (heap : IsHeap h) (held : IsHeld r
         let least = (told.named offset is).first x stands in_brick in omega arith
     start_low start (inr (never, here, at)) x stands in_brick =
         let above = (unnamed never x stands in_brick).0 in omega arith
+
+    -- what the entry names can be read
+    pub named_below : (offset : ℕ) → entry ≡ root_entry offset → 4096 * brick + offset < last_of h k
+    named_below offset is =
+        let leads = told.named offset is in within (4096 * brick + offset) leads.stands leads.inside
+
+    pub named_search : HasBorder rows h k young → (counts : ℕ → Bool) (offset : ℕ) → entry ≡ root_entry offset
+        → IsSearch rows h counts k (4096 * brick + offset) (4096 * brick + offset)
+    named_search border counts offset is =
+        search_starts rows h counts k (4096 * brick + offset)
+        (start_begins border (4096 * brick + offset) (inl (offset, is, refl)))
+
+    -- and where it counts, it is the first one
+    pub named_first : (counts : ℕ → Bool) (offset : ℕ) → entry ≡ root_entry offset
+        → counts (word_of h (4096 * brick + offset)) ≡ true → IsFirstIn rows h counts brick (4096 * brick + offset)
+    named_first counts offset is passes =
+        let leads = told.named offset is in
+        record {
+          counted = record { stands = leads.stands; counted = passes };
+          inside = leads.inside;
+          first = λ x other at. leads.first x other.stands at;
+        }
 
     start_in : (start : ℕ) → IsSearchStart entry brick young start → start / 4096 ≡ brick
     start_in start (inl (offset, is, at)) =

@@ -1,13 +1,13 @@
 -- The bricks of a segment, renewed one after the other.
-use Rattle.std.proofs.Common.{◌≡◌, ◌≢◌, ◌⊎◌, inl, inr, ℕ, zero, suc, ◌+◌, ◌*◌, ◌/◌, ◌<◌, ◌≤◌, Bool, true, List, length}
-use Rattle.std.proofs.Common.{refl, ap, sym, ◌∙◌, subst, arith, ℤ, Option, Some, None, MatchOption}
+use Rattle.std.proofs.Common.{◌≡◌, ◌≢◌, ◌⊎◌, inl, inr, ℕ, zero, suc, ◌+◌, ◌-◌, ◌*◌, ◌/◌, ◌<◌, ◌≤◌, Bool, true, List}
+use Rattle.std.proofs.Common.{length, refl, ap, sym, ◌∙◌, subst, arith, ℤ, Option, Some, None, MatchOption}
 use Rattle.std.proofs.lemmas.Bool.{cases_eq, cases_lt, eq-eqb, ne_eqb}
 use Rattle.clr_types.specs.Rising.{IsIn}
 use Rattle.clr_types.specs.Segments.{Layout, stands_in}
 use Rattle.clr_types.specs.Types.{TypeRow}
 use Rattle.clr_types.specs.declared.segment.SegInfo.{SegInfo}
 use Rattle.clr_types.proofs.ChangedLists.{into_filter, out_of_filter}
-use Rattle.clr_bricks.specs.Bricks.{entry_at, root_entry}
+use Rattle.clr_bricks.specs.Bricks.{AreLedBack, entry_at, hop, IsRoot, root_entry}
 use Rattle.clr_covers.specs.Covers.{CoverView, is_covered, share_cover, spans}
 use Rattle.clr_heap.specs.View.{first_of, frame, HeapView, IsHeap, last_of, no_rests, segment_at, word_of}
 use Rattle.clr_heap.proofs.Framing.{lawful_at}
@@ -21,7 +21,7 @@ use Rattle.clr_generations.specs.Renewing.{named_after, NamesBelow, next_after, 
 use Rattle.clr_generations.specs.Tables.{AreBricksOf}
 use Rattle.clr_generations.proofs.Alike.{AreAlike, entered_below, forgotten-low, forgotten-root, root-forgotten}
 use Rattle.clr_generations.proofs.BrickSteps.{all_entered, IsEntering, IsFirstOf, led, led-above, led-alike, led-below}
-use Rattle.clr_generations.proofs.BrickSteps.{passed, starts_open, starts_settled, stepped}
+use Rattle.clr_generations.proofs.BrickSteps.{no_root, passed, starts_open, starts_settled, stepped}
 use Rattle.clr_generations.proofs.Collected.{alike-left}
 use Rattle.clr_generations.proofs.FirstCounted.{found_none}
 use Rattle.clr_generations.proofs.HeapHomes.{brick-covered, brick-in, bricks-shared, heap_homes}
@@ -79,7 +79,7 @@ named-others entry (Some place) brick next b ne out =
       ]
     ])
 
-next-bounds : (first : Option ℕ) (brick next : ℕ) → next ≤ brick
+pub next-bounds : (first : Option ℕ) (brick next : ℕ) → next ≤ brick
     → (next ≤ next_after first brick next) × (next_after first brick next ≤ brick + 1)
 next-bounds None brick next order = (omega arith, omega arith)
 next-bounds (Some place) brick next order = (omega arith, omega arith)
@@ -91,6 +91,32 @@ next-inside P None brick next i all here low high = elim (cases_eq i brick) [
   | inr ne ↦ all i low (omega arith)
 ]
 next-inside P (Some place) brick next i all here low high = absurd (omega arith)
+
+-- ---- bricks that lead back already
+
+-- a brick that is named stands above them
+pub led_more : (now new : List (CoverView ℤ)) (first : Option ℕ) (brick next to after : ℕ)
+    → after ≡ next_after first brick next
+    → ((i : ℕ) → entry_at new i ≡ named_after first (entry_at now) brick next i)
+    → to ≤ brick → AreLedBack (entry_at now) next to → AreLedBack (entry_at new) after to
+led_more now new first brick next to after at same high is =
+    let P : ℕ → Type 0 = λ n. AreLedBack (entry_at new) n to in
+    subst P (sym at) (λ i low under. same i ∙ kept first i low under)
+  where
+    kept : (f : Option ℕ) → AreLedBack (named_after f (entry_at now) brick next) (next_after f brick next) to
+    kept None = is
+    kept (Some place) = λ i low under. absurd (omega arith)
+
+pub open_more : (first : Option ℕ) (brick next to after : ℕ) → after ≡ next_after first brick next → next ≤ to
+    → after < brick + 1 → after ≤ to
+open_more None brick next to after at low under = omega arith
+open_more (Some place) brick next to after at low under = absurd (omega arith)
+
+-- and none of them is a root
+pub led_no_root : (entry : ℕ → ℤ) (next to i : ℕ) → AreLedBack entry next to → next ≤ i → i < to
+    → IsRoot (entry i) → ⊥
+led_no_root entry next to i is low under root =
+    no_root (hop (i + 1 - next)) root.0 (sym (is i low under) ∙ root.1)
 
 module _ (rows : List TypeRow) (h : HeapView) (heap : IsHeap h) (held : IsHeld rows h) (k : ℕ)
     (inside : k < length h.segments) (counts : ℕ → Bool) (from young : ℕ) (low : first_of h k ≤ from)

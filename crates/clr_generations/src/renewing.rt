@@ -1,7 +1,7 @@
 // The bricks of a part of a segment, renewed: before a sweep of it, or where its objects have become older.
 ghost use Rattle.std.specs.Prelude.{◌≡◌, ℕ, ◌+◌, ◌*◌, ◌/◌, ◌-◌, ◌<◌, ◌≤◌, ◌^◌, ◌==◌, ◌⊎◌, if◌then◌else◌, length};
-ghost use Rattle.std.specs.Prelude.{Bool, ◌&&◌, MatchOption, true};
-ghost use Rattle.clr_bricks.specs.Bricks.{entry_at};
+ghost use Rattle.std.specs.Prelude.{◌≢◌, Bool, ◌&&◌, MatchOption, true};
+ghost use Rattle.clr_bricks.specs.Bricks.{AreLedBack, entry_at};
 ghost use Rattle.clr_covers.specs.Covers.{is_covered, share_cover, spans};
 ghost use Rattle.clr_heap.specs.View.{first_of, frame, IsHeap, last_of, no_rests, segment_at};
 ghost use Rattle.clr_model.specs.Machine.{Object};
@@ -120,48 +120,96 @@ fn renew_part(
     let end = heap.info(k).end;
     let mut next = first_open(bricks, from, end);
     let mut brick = next;
+    let mut led = next;
     while 4096 * brick < end {
         let first = first_in(heap, types, bricks, k, brick, young, counted);
-        next = name_first(bricks, first, brick, next);
-        brick = next_start(bricks, brick + 1, end, young);
+        next = name_first(bricks, first, brick, next, led);
+        let passed = next_start(bricks, next, led, brick + 1, end, young);
+        led = passed.0;
+        brick = passed.1;
     }
-    bricks.lead_back(next, brick);
+    bricks.lead_on(next, led, brick);
 }
 
-// The first brick from `from` on in which a search may begin: its entry names an offset, or generation 0 begins in it
-// at `young`. The brick behind the end of the segment, `end`, where there is none. The bricks of large objects are
-// passed so, in which no object starts.
-fn next_start(bricks: &Bricks, from: u64, end: u64, young: u64) -> u64
+// Up to which brick those from `next` on lead back to the one below it, as they are known to do up to `led`, and the
+// first brick from `from` on in which a search may begin: its entry names an offset, or generation 0 begins in it at
+// `young`. The brick behind the end of the segment, `end`, where there is none. So the bricks of large objects are
+// passed, in which no object starts: behind an object that counts, where `next` is `from`, by one compare each.
+fn next_start(bricks: &Bricks, next: u64, led: u64, from: u64, end: u64, young: u64) -> (u64, u64)
     requires fits { end < 2 ^ 62 }
     requires near { 4096 * from < end + 4096 }
-    requires shared { (i : ℕ) → from ≤ i → 4096 * i < end → share_cover bricks.now from i ≡ true }
+    requires shared { (j i : ℕ) → from ≤ j → j ≤ i → 4096 * i < end → share_cover bricks.now j i ≡ true }
+    requires order { next ≤ from }
+    requires behind { led ≤ from }
+    requires known { next < from → next ≤ led }
+    requires led { AreLedBack (entry_at bricks.now) next led }
+    ensures low { from ≤ result.1 }
+    ensures near { 4096 * result.1 < end + 4096 }
+    ensures none { (i : ℕ) → from ≤ i → i < result.1 → HasNoStart (entry_at bricks.now i) i young }
+    ensures led_low { next ≤ result.0 }
+    ensures led_high { result.0 ≤ result.1 }
+    ensures led { AreLedBack (entry_at bricks.now) next result.0 }
+{
+    let stop = stop_from(from, end, young);
+    let to = led_on(bricks, next, led, from, stop);
+    (to, bricks.next_root(to.max(from), stop))
+}
+
+// The first brick from `from` on in which generation 0 begins at `young`, and where it doesn't, the one behind the end
+// of the segment, `end`.
+fn stop_from(from: u64, end: u64, young: u64) -> u64
+    requires fits { end < 2 ^ 62 }
+    requires near { 4096 * from < end + 4096 }
     ensures low { from ≤ result }
     ensures near { 4096 * result < end + 4096 }
-    ensures none { (i : ℕ) → from ≤ i → i < result → HasNoStart (entry_at bricks.now i) i young }
+    ensures none { (i : ℕ) → from ≤ i → i < result → young / 4096 ≢ i }
 {
     let past = (end + 4095) / 4096;
     let border = young / 4096;
-    let stop = if from <= border && border < past {
+    if from <= border && border < past {
         border
     } else {
         past
-    };
-    bricks.next_root(from, stop)
+    }
 }
 
-// The first brick from that of the place `from` on that names no place below it, where the segment ends at `end`.
-fn first_open(bricks: &Bricks, from: u64, end: u64) -> u64
+// Up to which brick, and no further than `stop`, those from `next` on lead back to the one below it, as they are known
+// to do up to `led`. Only where `next` is `from` are bricks looked at.
+fn led_on(bricks: &Bricks, next: u64, led: u64, from: u64, stop: u64) -> u64
+    requires stop { from ≤ stop }
+    requires shared { from < stop → share_cover bricks.now from (stop - 1) ≡ true }
+    requires order { next ≤ from }
+    requires behind { led ≤ from }
+    requires known { next < from → next ≤ led }
+    requires led { AreLedBack (entry_at bricks.now) next led }
+    ensures low { next ≤ result }
+    ensures high { result ≤ stop }
+    ensures later { from < result → next ≡ from }
+    ensures led { AreLedBack (entry_at bricks.now) next result }
+{
+    if next == from {
+        bricks.led_up_to(from, stop)
+    } else {
+        led
+    }
+}
+
+// The first brick from that of the place `from` on that names no place below it, where the segment ends at `end`. The
+// bricks of the segment are expected from then on.
+fn first_open(bricks: &mut Bricks, from: u64, end: u64) -> u64
     requires fits { end < 2 ^ 62 }
-    requires covered { 4096 * (from / 4096) < end → is_covered bricks.now (from / 4096) ≡ true }
-    ensures { ((4096 * (from / 4096) < end) × NamesBelow (entry_at bricks.now (from / 4096)) (from / 4096) from
+    requires covered { 4096 * (from / 4096) < end → is_covered bricks.old (from / 4096) ≡ true }
+    ensures opens { ((4096 * (from / 4096) < end) × NamesBelow (entry_at bricks.old (from / 4096)) (from / 4096) from
         × (result ≡ from / 4096 + 1))
-        ⊎ (((end ≤ 4096 * (from / 4096)) ⊎ (NamesBelow (entry_at bricks.now (from / 4096)) (from / 4096) from → ⊥))
+        ⊎ (((end ≤ 4096 * (from / 4096)) ⊎ (NamesBelow (entry_at bricks.old (from / 4096)) (from / 4096) from → ⊥))
         × (result ≡ from / 4096)) }
+    ensures same { bricks.new ≡ bricks.old }
 {
     let brick = from / 4096;
     if 4096 * brick >= end {
         return brick;
     }
+    bricks.expect(brick);
     let entry = bricks.entry(brick);
     if entry <= 0 {
         return brick;
@@ -196,6 +244,13 @@ fn first_in(
         (IsFirstIn types.now heap.now (renewing.passes counted) brick) }
 {
     let end = heap.info(k).end;
+    let entry = bricks.entry(brick);
+    if entry > 0 {
+        let place = 4096 * brick + offset_of(entry);
+        if counted.passes(heap.word_at(k, place)) {
+            return Some(place);
+        }
+    }
     match search_start(bricks, brick, young) {
         Some(start) => first_counted(heap, types, k, start, end.min(4096 * brick + 4096), counted),
         None => None,
@@ -258,19 +313,22 @@ fn is_counted(found: Item, mt: u64, counted: Counted) -> bool
     found.type_id.0 != 0 && counted.passes(mt)
 }
 
-// Lets the brick name the object at the place `first`, and those of [next, brick) lead back to the one below `next`;
-// changes nothing where there is no such object. Answers which brick is the first that isn't settled then.
-fn name_first(bricks: &mut Bricks, first: Option<u64>, brick: u64, next: u64) -> u64
+// Lets the brick name the object at the place `first`, and those of [next, brick) lead back to the one below `next`, as
+// those below `led` do already; changes nothing where there is no such object. Answers which brick is the first that
+// isn't settled then.
+fn name_first(bricks: &mut Bricks, first: Option<u64>, brick: u64, next: u64, led: u64) -> u64
     requires fits { brick < 2 ^ 50 }
-    requires order { next ≤ brick }
+    requires low { next ≤ led }
+    requires high { led ≤ brick }
     requires shared { (i : ℕ) → next ≤ i → i ≤ brick → share_cover bricks.old next i ≡ true }
+    requires led { AreLedBack (entry_at bricks.old) next led }
     ensures next { result ≡ next_after first brick next }
     ensures entries { (i : ℕ) → entry_at bricks.new i ≡ named_after first (entry_at bricks.old) brick next i }
     ensures spans { spans bricks.new ≡ spans bricks.old }
 {
     match first {
         Some(place) => {
-            bricks.lead_back(next, brick);
+            bricks.lead_on(next, led, brick);
             bricks.set_root(brick, (place % 4096) as u16);
             brick + 1
         }

@@ -1,6 +1,6 @@
 use Rattle.std.proofs.Common.{◌≡◌, ℕ, pos, ◌+◌, ◌-◌, ◌<◌, ◌≤◌, get_or, length}
 use Rattle.clr_bricks.specs.Bricks.{back_entry, hop}
-use Rattle.clr_bricks.proofs.leading.count_led.Given as goal
+use Rattle.clr_bricks.proofs.leading.count_far.Given as goal
 
 abbrev pub invariant-loop-at : goal.invariant-loop-at
 invariant-loop-at l = record {

@@ -1,7 +1,7 @@
 use Rattle.std.proofs.Common.{◌≡◌, ◌≤◌, ℕ}
 use Rattle.clr_bricks.specs.Bricks.{entry_at, led_back}
 use Rattle.clr_covers.specs.Covers.{spans}
-use Rattle.clr_bricks.proofs.bricks.Bricks.lead_back.Given as goal
+use Rattle.clr_bricks.proofs.bricks.Bricks.lead_on.Given as goal
 
 abbrev pub invariant-loop-brick : goal.invariant-loop-brick
 invariant-loop-brick l = record {

@@ -3,7 +3,7 @@ use Rattle.std.proofs.Common.{FitsSigned, rules}
 use Rattle.std.proofs.lemmas.Bool.{cases_lt}
 use Rattle.std.proofs.lemmas.Int.{to_z-of_z}
 use Rattle.clr_bricks.specs.Bricks.{back_entry, hop}
-use Rattle.clr_bricks.proofs.leading.count_led.Goals as goal
+use Rattle.clr_bricks.proofs.leading.count_far.Goals as goal
 
 pub loop-at-preserved : goal.loop-at-preserved
 loop-at-preserved c =

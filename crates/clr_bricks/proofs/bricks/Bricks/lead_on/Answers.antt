@@ -2,14 +2,13 @@ use Rattle.std.proofs.Common.{◌-◌, refl, ◌∙◌, arith}
 use Rattle.clr_bricks.specs.Bricks.{entry_at}
 use Rattle.clr_covers.proofs.Spans.{is_covered-spans}
 use Rattle.clr_bricks.proofs.LeadBack.{led-already, share_between}
-use Rattle.clr_bricks.proofs.bricks.Bricks.lead_back.Goals as goal
+use Rattle.clr_bricks.proofs.bricks.Bricks.lead_on.Goals as goal
 
 pub loop-brick-init : goal.loop-brick-init
 loop-brick-init c = record {
-  entries = λ i. led-already (entry_at c.args.self.now) c.args.from c.led_up_to-brick.result i
-      c.led_up_to-brick.ensures.led;
+  entries = λ i. led-already (entry_at c.args.self.now) c.args.from c.args.led i c.requires.led;
   spans = refl;
-  low = c.led_up_to-brick.ensures.low;
+  low = c.requires.low;
 }
 
 pub set_back-requires-clause-covered : goal.set_back-requires-clause-covered

@@ -1,0 +1,12 @@
+use Rattle.std.proofs.Common.{◌≡◌, ℕ, pos, ◌+◌, ◌-◌, ◌<◌, ◌≤◌, get_or}
+use Rattle.clr_bricks.specs.Bricks.{back_entry, hop}
+use Rattle.clr_bricks.proofs.leading.count_near.Given as goal
+
+abbrev pub invariant-loop-at : goal.invariant-loop-at
+invariant-loop-at l = record {
+  within : l.at ≤ l.most;
+  led : (i : ℕ) → i < l.at → get_or l.entries i (pos 0) ≡ back_entry (hop (i + 1));
+}
+
+abbrev pub decreases-loop-at : goal.decreases-loop-at
+decreases-loop-at l = l.most - l.at

@@ -14,6 +14,9 @@ use clr_heap::Heap;
 use clr_moves::{Stretch, TOGETHER, stretches_near};
 use clr_types::ReferenceRun;
 
+// So many bytes beyond the stretch that was met last a target is far: its tree isn't in the processor's caches then.
+const FAR: u64 = 65_536;
+
 // Makes the stretch of the target of reference number `at` of a run the one that was met last, where it is found.
 // `ahead` has the stretches that were found for the references below number `until`, each at its number modulo the
 // length. Answers the number up to which they have been looked for then.
@@ -45,6 +48,9 @@ pub(crate) fn come_near(
 {
     let named = heap.word_at(object.segment, object.found.place + (run.offset + 8 * at));
     if named == 0 || last.low <= named && named < last.stop {
+        return until;
+    }
+    if named.abs_diff(last.low) < FAR {
         return until;
     }
     let next = look_ahead(heap, work, object, run, at, until, ahead);

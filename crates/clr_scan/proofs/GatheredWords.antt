@@ -107,57 +107,60 @@ module _ (rows : List TypeRow) (h : HeapView) (g age base from j : ℕ) (targets
       }
 
   -- what was gathered was marked
-  pub gathered_scan : (new : HeapView) (m n : MarkerView) → g ≡ m.oldest → IsGray rows new n
+  pub gathered_scan : (i : Item) → ((t : ℕ) → t < j → IsReferenceOf rows i (base + 8 * t)) → (new : HeapView)
+      (m n : MarkerView) → g ≡ m.oldest → IsGray rows new n
       → HasScanned rows h new m n → ((y : ℕ) → IsIn y targets → Marked rows new y)
-      → IsWordScan rows h new m n base age from j younger
-  gathered_scan new m n oldest gray scanned marked =
+      → IsWordScan rows h new m n i base age from j younger
+  gathered_scan i reference new m n oldest gray scanned marked =
       let P : ℕ → Type 0 = λ e. (t : ℕ) → from ≤ t → t < j → IsTraced h rows new e (base + 8 * t) in
       record {
         gray = gray;
         scanned = scanned;
-        traced = subst P oldest (λ t l b ne near. marked (word_of h (base + 8 * t)) (s.gathered t l b ne near));
-        clear = s.clear;
-        silent = s.silent;
+        traced = λ t l b _. subst P oldest
+            (λ t l b ne near. marked (word_of h (base + 8 * t)) (s.gathered t l b ne near)) t l b;
+        clear = λ none t l b _. s.clear none t l b;
+        silent = λ all. s.silent (λ t l b. all t l b (reference t b));
       }
 
 -- ---- scans after one another
 
 module _ (rows : List TypeRow) (h now new : HeapView) (m n o : MarkerView) (i : Item) (base age from j met : ℕ)
     (younger below : Bool) (closed : IsClosed rows h) (listed : IsIn i (heap_items rows h))
-    (s : IsWordScan rows h now m n base age from j younger) (q : IsWordScan rows now new n o base age j met below)
-    (reference : (t : ℕ) → t < met → IsReferenceOf rows i (base + 8 * t)) where
-  same : (t : ℕ) → t < met → word_of now (base + 8 * t) ≡ word_of h (base + 8 * t)
-  same t b = ref_word rows h closed i listed (base + 8 * t) (reference t b) now s.scanned.remarked
+    (s : IsWordScan rows h now m n i base age from j younger)
+    (q : IsWordScan rows now new n o i base age j met below) where
+  module _ (t : ℕ) (r : IsReferenceOf rows i (base + 8 * t)) where
+    same : word_of now (base + 8 * t) ≡ word_of h (base + 8 * t)
+    same = ref_word rows h closed i listed (base + 8 * t) r now s.scanned.remarked
 
-  quiet_back : (t : ℕ) → t < met → IsQuiet now age (base + 8 * t) → IsQuiet h age (base + 8 * t)
-  quiet_back t b quiet ne less =
-      let w = ap (generation (frame now)) (same t b) in
-      let a = same-age rows h now (word_of h (base + 8 * t)) s.scanned.remarked in
-      quiet (λ e. ne (sym (same t b) ∙ e)) (omega (arith, w, a, less))
+    quiet_back : IsQuiet now age (base + 8 * t) → IsQuiet h age (base + 8 * t)
+    quiet_back quiet ne less =
+        let w = ap (generation (frame now)) same in
+        let a = same-age rows h now (word_of h (base + 8 * t)) s.scanned.remarked in
+        quiet (λ e. ne (sym same ∙ e)) (omega (arith, w, a, less))
 
-  quiet_on : (t : ℕ) → t < met → IsQuiet h age (base + 8 * t) → IsQuiet now age (base + 8 * t)
-  quiet_on t b quiet ne less =
-      let w = ap (generation (frame now)) (same t b) in
-      let a = same-age rows h now (word_of h (base + 8 * t)) s.scanned.remarked in
-      quiet (λ e. ne (same t b ∙ e)) (omega (arith, w, a, less))
+    quiet_on : IsQuiet h age (base + 8 * t) → IsQuiet now age (base + 8 * t)
+    quiet_on quiet ne less =
+        let w = ap (generation (frame now)) same in
+        let a = same-age rows h now (word_of h (base + 8 * t)) s.scanned.remarked in
+        quiet (λ e. ne (same ∙ e)) (omega (arith, w, a, less))
 
   pub scans_joined : (next : Bool) → from ≤ j → j ≤ met
       → (next ≡ false → (younger ≡ false) × (below ≡ false)) → (younger ≡ false → below ≡ false → next ≡ false)
-      → IsWordScan rows h new m o base age from met next
+      → IsWordScan rows h new m o i base age from met next
   scans_joined next low up parts joined =
       record {
         gray = q.gray;
         scanned = scanned-trans rows h now new m n o closed.heap closed.held s.scanned q.scanned;
-        traced = λ t l b. elim (cases_lt t j) [
-          | inl before ↦ traced-on h rows now new m.oldest (base + 8 * t) q.scanned.kept (s.traced t l before)
-          | inr here ↦ traced-from h rows now new m n (base + 8 * t) s.scanned (same t b) (q.traced t here b)
+        traced = λ t l b e. elim (cases_lt t j) [
+          | inl before ↦ traced-on h rows now new m.oldest (base + 8 * t) q.scanned.kept (s.traced t l before e)
+          | inr here ↦ traced-from h rows now new m n (base + 8 * t) s.scanned (same t e) (q.traced t here b e)
         ];
-        clear = λ none t l b. elim (cases_lt t j) [
-          | inl before ↦ s.clear (parts none).0 t l before
-          | inr here ↦ quiet_back t b (q.clear (parts none).1 t here b)
+        clear = λ none t l b e. elim (cases_lt t j) [
+          | inl before ↦ s.clear (parts none).0 t l before e
+          | inr here ↦ quiet_back t e (q.clear (parts none).1 t here b e)
         ];
-        silent = λ all. joined (s.silent (λ t l b. all t l (omega arith)))
-            (q.silent (λ t l b. quiet_on t b (all t (omega arith) b)));
+        silent = λ all. joined (s.silent (λ t l b e. all t l (omega arith) e))
+            (q.silent (λ t l b e. quiet_on t e (all t (omega arith) b e)));
       }
 
 -- ---- roots that older objects name

@@ -63,16 +63,7 @@ pub(crate) fn scan_slots(
     if let Some(run) = types.reference_run(found.type_id, found.len) {
         return scan_words(marker, heap, types, older, lo, hi, run);
     }
-    let (from, to) = slots_on(types, found, lo, hi);
-    let mut younger = false;
-    for j in from..to {
-        let slot = types.slot(found.type_id, found.len, j);
-        if slot.reference {
-            let below = scan_slot(marker, heap, types, older, found.place + slot.offset);
-            younger |= below;
-        }
-    }
-    younger
+    scan_mixed(marker, heap, types, older, lo, hi)
 }
 
 // Marks what the slots of an older object name, as `scan_slots` does, where they are one run of words. It stands apart,
@@ -124,6 +115,56 @@ fn scan_words(
         }
         let below = scan_slot(marker, heap, types, older, first + 8 * met);
         younger |= below;
+        at = met + 1;
+    }
+    younger
+}
+
+// Marks what the slots of an older object name, as `scan_slots` does, where some of them are no references. Words that
+// name nothing of a lower generation are passed, whatever they are. Only of others the slot is asked, as a number may
+// look like a reference.
+#[inline(never)]
+fn scan_mixed(
+    marker: &mut Marker,
+    heap: &mut Heap,
+    types: &Types,
+    older: Older,
+    lo: u64,
+    hi: u64,
+) -> bool
+    requires words { is_bytes (form_at types.now older.item.type_id.0) ≡ false }
+    requires gray { IsGray types.now heap.old marker.old }
+    requires listed { IsIn older.item (heap_items types.now heap.old) }
+    requires object { is_object older.item ≡ true }
+    requires order { lo ≤ hi }
+    requires high { hi ≤ 2 ^ 62 }
+    requires segment { older.segment ≡ memory_index heap.old.memories older.item.place }
+    requires age { older.age ≡ generation (frame heap.old) older.item.place }
+    requires older { is_condemned_place heap.old marker.old.oldest older.item.place ≡ false }
+    ensures gray { IsGray types.now heap.new marker.new }
+    ensures scanned { HasScanned types.now heap.old heap.new marker.old marker.new }
+    ensures traced { (a : ℕ) → IsReferenceOf types.now older.item a → lo ≤ a → a < hi
+        → IsTraced heap.old types.now heap.new marker.old.oldest a }
+    ensures silent { ((a : ℕ) → IsReferenceOf types.now older.item a → lo ≤ a → a < hi → IsQuiet heap.old older.age a)
+        → result ≡ false }
+    ensures clear { result ≡ false → (a : ℕ) → IsReferenceOf types.now older.item a → lo ≤ a → a < hi
+        → IsQuiet heap.old older.age a }
+{
+    let found = older.item;
+    let slots = slots_on(types, found, lo, hi);
+    let mut younger = false;
+    let mut at = slots.from;
+    while at < slots.to {
+        let bound = looked_for(younger, older.age, marker.oldest());
+        let met = pass_words(heap, older.segment, slots.first, at, slots.to, bound);
+        if met == slots.to {
+            return younger;
+        }
+        let slot = types.slot(found.type_id, found.len, met);
+        if slot.reference {
+            let below = scan_slot(marker, heap, types, older, slots.first + 8 * met);
+            younger |= below;
+        }
         at = met + 1;
     }
     younger
@@ -225,31 +266,44 @@ fn mark_target(marker: &mut Marker, heap: &mut Heap, types: &Types, target: u64)
     marker.drain_if_full(heap, types);
 }
 
-// The numbers of the slots of an item that stand on `[lo, hi)`: the first of them, and one past the last. It has
-// references.
-fn slots_on(types: &Types, found: Item, lo: u64, hi: u64) -> (u64, u64)
+// Slots of an item, which are words: where number 0 stands, and which are meant, from number `from` up to `to`.
+#[derive(Clone, Copy)]
+struct SlotWords {
+    first: u64,
+    from: u64,
+    to: u64,
+}
+
+// The slots of an item that stand on `[lo, hi)`. It is no array of bytes, so they are words.
+fn slots_on(types: &Types, found: Item, lo: u64, hi: u64) -> SlotWords
     requires known { found.type_id.0 ≤ length types.now }
     requires small { size_of (form_at types.now found.type_id.0) found.len ≤ 1073741824 }
     requires words { is_bytes (form_at types.now found.type_id.0) ≡ false }
     requires low { found.place + 1073741824 < 2 ^ 63 }
     requires high { hi < 2 ^ 63 }
     requires from { lo < 2 ^ 63 }
-    ensures order { result.0 ≤ result.1 }
-    ensures below { (j : ℕ) → j < result.0 → found.place + slot_offset (form_at types.now found.type_id.0) j < lo }
-    ensures above { (j : ℕ) → result.1 ≤ j → j < length (slot_kinds (form_at types.now found.type_id.0) found.len)
-        → hi ≤ found.place + slot_offset (form_at types.now found.type_id.0) j }
-    ensures inside { (j : ℕ) → result.0 ≤ j → j < result.1
-        → (lo ≤ found.place + slot_offset (form_at types.now found.type_id.0) j)
-        × (found.place + slot_offset (form_at types.now found.type_id.0) j < hi) }
-    ensures within { result.1 ≤ length (slot_kinds (form_at types.now found.type_id.0) found.len) }
+    ensures slots { (j : ℕ) → j < length (slot_kinds (form_at types.now found.type_id.0) found.len)
+        → result.first + 8 * j ≡ found.place + slot_offset (form_at types.now found.type_id.0) j }
+    ensures order { result.from ≤ result.to }
+    ensures within { result.to ≤ length (slot_kinds (form_at types.now found.type_id.0) found.len) }
+    ensures below { (j : ℕ) → j < result.from → result.first + 8 * j < lo }
+    ensures above { (j : ℕ) → result.to ≤ j → j < length (slot_kinds (form_at types.now found.type_id.0) found.len)
+        → hi ≤ result.first + 8 * j }
+    ensures inside { (j : ℕ) → result.from ≤ j → j < result.to
+        → (lo ≤ result.first + 8 * j) × (result.first + 8 * j < hi) }
 {
     let count = types.slot_count(found.type_id, found.len);
     if count == 0 {
-        return (0, 0);
+        return SlotWords {
+            first: 0,
+            from: 0,
+            to: 0,
+        };
     }
     let first = found.place + types.slot(found.type_id, found.len, 0).offset;
     let to = words_to(first, hi).min(count);
-    (words_to(first, lo).min(to), to)
+    let from = words_to(first, lo).min(to);
+    SlotWords { first, from, to }
 }
 
 // How many words from `first` on begin below `past`.

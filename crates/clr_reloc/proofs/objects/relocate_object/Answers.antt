@@ -10,6 +10,12 @@ reference_run-requires c =
     listed-known c.args.work.now.types.now view c.args.object.now.found r.0.begun.plan.overlaid.heap
     r.0.begun.plan.held ahead.left.listed
 
+pub is_passed_by_words-requires : goal.is_passed_by_words-requires
+is_passed_by_words-requires c =
+    let (view, now, vs, r, ahead) = c.requires.can in
+    listed-known c.args.work.now.types.now view c.args.object.now.found r.0.begun.plan.overlaid.heap
+    r.0.begun.plan.held ahead.left.listed
+
 pub is_sparse-requires-clause-fits : goal.is_sparse-requires-clause-fits
 is_sparse-requires-clause-fits c j l =
     let w = c.args.work.now in

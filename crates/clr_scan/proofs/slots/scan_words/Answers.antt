@@ -1,15 +1,13 @@
-use Rattle.std.proofs.Common.{ℕ, ◌+◌, ◌*◌, ◌||◌, if◌then◌else◌, refl, ap, sym, ◌∙◌, arith}
-use Rattle.clr_types.specs.Segments.{generation}
-use Rattle.clr_heap.specs.View.{frame, word_of}
+use Rattle.std.proofs.Common.{ℕ, ◌+◌, ◌*◌, if◌then◌else◌, ap, sym, ◌∙◌, arith}
+use Rattle.clr_heap.specs.View.{frame}
 use Rattle.clr_heap.proofs.Storing.{memory_index-shapes}
 use Rattle.clr_generations.proofs.BarrierLaw.{generation-most}
 use Rattle.clr_mark.specs.Marks.{is_condemned_place}
 use Rattle.clr_scan.proofs.CardScans.{listed-on, older-above, ref_low, scanned-refl}
 use Rattle.clr_mark.proofs.Graying.{same_condemned}
-use Rattle.clr_scan.proofs.SlotScans.{slot_clear, slot_silent, younger_joined, younger_parts}
-use Rattle.clr_scan.proofs.WordScans.{IsWordScan, no_words, word_followed, word_reference, word_scan_starts}
-use Rattle.clr_scan.proofs.WordScans.{words_clear}
-use Rattle.clr_scan.proofs.WordScans.{word_has, word_index, word_low, words_passed, words_traced}
+use Rattle.clr_scan.proofs.WordScans.{IsWordScan, no_words, word_followed, word_has, word_index, word_low}
+use Rattle.clr_scan.proofs.WordScans.{word_number, word_reference, word_scan_starts, words_clear, words_passed}
+use Rattle.clr_scan.proofs.WordScans.{words_silent, words_traced}
 use Rattle.clr_scan.proofs.slots.scan_words.Goals.{After-scan_together}
 use Rattle.clr_scan.proofs.slots.scan_words.Goals as goal
 
@@ -43,23 +41,27 @@ scan_together-requires-clause-references c j l =
 -- all words are looked at together
 together_scan : (c : After-scan_together)
     → IsWordScan c.args.types.now c.args.heap.now c.scan_together.new.heap c.args.marker.now
-    c.scan_together.new.marker (c.args.older.item.place + c.args.run.offset) c.args.older.age c.min-from.result
-    c.min-to.result c.scan_together.result
+    c.scan_together.new.marker c.args.older.item (c.args.older.item.place + c.args.run.offset) c.args.older.age
+    c.min-from.result c.min-to.result c.scan_together.result
 together_scan c = record {
   gray = c.scan_together.ensures.gray;
   scanned = c.scan_together.ensures.scanned;
-  traced = λ s l b. c.scan_together.ensures.traced s l (omega (arith, b));
-  clear = λ none s l b. c.scan_together.ensures.clear none s l (omega (arith, b));
-  silent = λ all. c.scan_together.ensures.silent (λ s l b. all s l (omega (arith, b)));
+  traced = λ s l b _. c.scan_together.ensures.traced s l (omega (arith, b));
+  clear = λ none s l b _. c.scan_together.ensures.clear none s l (omega (arith, b));
+  silent = λ all. c.scan_together.ensures.silent (λ s l b.
+      all s l (omega (arith, b)) (word_reference c.args.types.now c.args.older.item c.args.run.offset c.args.run.count s
+      c.requires.object c.requires.run (let top = c.min-to.ensures in omega (arith, top, b))));
 }
 
 pub returns-then-to-from-ge-MANY-clause-traced : goal.returns-then-to-from-ge-MANY-clause-traced
 returns-then-to-from-ge-MANY-clause-traced c =
     words_traced c.args.types.now c.args.heap.now c.scan_together.new.heap c.args.marker.now
-    c.scan_together.new.marker c.args.older.item
-    (c.args.older.item.place + c.args.run.offset) c.args.older.age c.min-from.result c.min-to.result
-    c.scan_together.result c.requires.gray.closed c.requires.listed (together_scan c)
-    c.args.run.offset c.args.run.count c.min-to.result c.args.lo c.args.hi c.requires.run refl (omega arith)
+    c.scan_together.new.marker c.args.older.item (c.args.older.item.place + c.args.run.offset) c.args.older.age
+    c.min-from.result c.min-to.result c.scan_together.result c.requires.gray.closed c.requires.listed
+    (together_scan c)
+    c.args.run.count c.min-to.result c.args.lo c.args.hi
+    (word_number c.args.types.now c.args.older.item c.args.run.offset c.args.run.count c.requires.run)
+    (omega arith)
     (λ t l. c.words_to-2.ensures.below t (let from = c.min-from.ensures in omega (arith, from, l)))
     (λ t l below. c.words_to.ensures.above t (let to = c.min-to.ensures in omega (arith, to, l, below)))
 
@@ -67,27 +69,31 @@ pub returns-then-to-from-ge-MANY-clause-silent : goal.returns-then-to-from-ge-MA
 returns-then-to-from-ge-MANY-clause-silent c all =
     let to = c.min-to.ensures in
     let from = c.min-from.ensures in
-    c.scan_together.ensures.silent (λ s low high.
-    all (c.args.older.item.place + c.args.run.offset + 8 * s)
-    (word_reference c.args.types.now c.args.older.item c.args.run.offset c.args.run.count s c.requires.object
-    c.requires.run (omega (arith, to, high)))
-    (c.words_to-2.ensures.above s (omega (arith, from, to, low, high)))
-    (c.words_to.ensures.below s (omega (arith, to, high))))
+    words_silent c.args.types.now c.args.heap.now c.scan_together.new.heap c.args.marker.now
+    c.scan_together.new.marker c.args.older.item (c.args.older.item.place + c.args.run.offset) c.args.older.age
+    c.min-from.result c.min-to.result c.scan_together.result c.requires.gray.closed c.requires.listed
+    (together_scan c)
+    c.args.lo c.args.hi all (λ s low high. (
+      c.words_to-2.ensures.above s (omega (arith, from, to, low, high)),
+      c.words_to.ensures.below s (omega (arith, to, high)),
+    ))
 
 pub returns-then-to-from-ge-MANY-clause-clear : goal.returns-then-to-from-ge-MANY-clause-clear
 returns-then-to-from-ge-MANY-clause-clear c =
     words_clear c.args.types.now c.args.heap.now c.scan_together.new.heap c.args.marker.now
-    c.scan_together.new.marker c.args.older.item
-    (c.args.older.item.place + c.args.run.offset) c.args.older.age c.min-from.result c.min-to.result
-    c.scan_together.result c.requires.gray.closed c.requires.listed (together_scan c)
-    c.args.run.offset c.args.run.count c.min-to.result c.args.lo c.args.hi c.requires.run refl (omega arith)
+    c.scan_together.new.marker c.args.older.item (c.args.older.item.place + c.args.run.offset) c.args.older.age
+    c.min-from.result c.min-to.result c.scan_together.result c.requires.gray.closed c.requires.listed
+    (together_scan c)
+    c.args.run.count c.min-to.result c.args.lo c.args.hi
+    (word_number c.args.types.now c.args.older.item c.args.run.offset c.args.run.count c.requires.run)
+    (omega arith)
     (λ t l. c.words_to-2.ensures.below t (let from = c.min-from.ensures in omega (arith, from, l)))
     (λ t l below. c.words_to.ensures.above t (let to = c.min-to.ensures in omega (arith, to, l, below)))
 
 pub loop-at-init : goal.loop-at-init
 loop-at-init c = (
-  word_scan_starts c.args.types.now c.args.heap.now c.args.marker.now (c.args.older.item.place + c.args.run.offset)
-      c.args.older.age c.min-from.result c.requires.gray,
+  word_scan_starts c.args.types.now c.args.heap.now c.args.marker.now c.args.older.item
+      (c.args.older.item.place + c.args.run.offset) c.args.older.age c.min-from.result c.requires.gray,
   omega arith,
   let from = c.min-from.ensures in omega (arith, from),
 )
@@ -173,42 +179,33 @@ scan_slot-below-requires-clause-older c =
 -- the words before the one that was met are passed
 met_scan : (c : goal.After-scan_slot-below)
     → IsWordScan c.args.types.now c.args.heap.now c.loop-at.heap c.args.marker.now c.loop-at.marker
-    (c.args.older.item.place + c.args.run.offset) c.args.older.age c.min-from.result c.pass_words-met.result
-    c.loop-at.younger
+    c.args.older.item (c.args.older.item.place + c.args.run.offset) c.args.older.age c.min-from.result
+    c.pass_words-met.result c.loop-at.younger
 met_scan c =
-    words_passed c.args.types.now c.args.heap.now c.loop-at.heap c.args.marker.now c.loop-at.marker c.args.older.item
-    (c.args.older.item.place + c.args.run.offset) c.args.older.age c.min-from.result c.loop-at.at c.loop-at.younger
-    c.requires.gray.closed c.requires.listed c.loop-at.invariant.0 c.pass_words-met.result c.min-to.result
+    words_passed c.args.types.now c.args.heap.now c.loop-at.heap c.args.marker.now c.loop-at.marker
+    c.args.older.item (c.args.older.item.place + c.args.run.offset) c.args.older.age c.min-from.result
+    c.loop-at.at c.loop-at.younger c.requires.gray.closed c.requires.listed
+    c.loop-at.invariant.0 c.pass_words-met.result
     c.looked_for-bound.result (c.looked_for-bound.ensures.bound
     ∙ ap (λ (g : ℕ). if c.loop-at.younger then g + 1 else c.args.older.age) c.oldest.ensures)
     (let above = c.looked_for-bound.ensures.above in let oldest = c.oldest.ensures in omega (arith, above, oldest))
-    (λ t here below. word_reference c.args.types.now c.args.older.item c.args.run.offset c.args.run.count t
-    c.requires.object c.requires.run (let top = c.min-to.ensures in omega (arith, top, below)))
-    c.pass_words-met.ensures.quiet c.pass_words-met.ensures.from c.pass_words-met.ensures.within
+    c.pass_words-met.ensures.quiet c.pass_words-met.ensures.from
 
 pub loop-at-preserved : goal.loop-at-preserved
 loop-at-preserved c =
     let scan = c.scan_slot-below.ensures in
-    let a = c.args.older.item.place + c.args.run.offset + 8 * c.pass_words-met.result in
-    let word = word_of c.loop-at.heap a in
     let low = c.loop-at.invariant.1 in
     let from = c.pass_words-met.ensures.from in
     let within = c.pass_words-met.ensures.within in
     let ne = c.if-met-to.false in (
-      word_followed c.args.types.now c.args.heap.now c.loop-at.heap c.args.marker.now c.loop-at.marker c.args.older.item
-          (c.args.older.item.place + c.args.run.offset) c.args.older.age c.min-from.result c.pass_words-met.result
-          c.loop-at.younger c.requires.gray.closed c.requires.listed (met_scan c)
+      word_followed c.args.types.now c.args.heap.now c.loop-at.heap c.args.marker.now c.loop-at.marker
+          c.args.older.item (c.args.older.item.place + c.args.run.offset) c.args.older.age c.min-from.result
+          c.pass_words-met.result c.loop-at.younger c.requires.gray.closed c.requires.listed
+          (met_scan c)
           (word_reference c.args.types.now c.args.older.item c.args.run.offset c.args.run.count c.pass_words-met.result
-          c.requires.object c.requires.run
-          (let top = c.min-to.ensures in let within = c.pass_words-met.ensures.within in let ne = c.if-met-to.false in
-          omega (arith, top, within, ne)))
-          c.scan_slot-below.new.heap c.scan_slot-below.new.marker c.scan_slot-below.result
-          (c.loop-at.younger || c.scan_slot-below.result) scan.gray scan.scanned scan.traced
-          (slot_clear word c.args.older.age (generation (frame c.loop-at.heap) word) c.scan_slot-below.result
-          scan.younger)
-          (slot_silent word c.args.older.age (generation (frame c.loop-at.heap) word) c.scan_slot-below.result
-          scan.younger) (omega (arith, low, from)) (younger_parts c.loop-at.younger c.scan_slot-below.result)
-          (younger_joined c.loop-at.younger c.scan_slot-below.result),
+          c.requires.object c.requires.run (let top = c.min-to.ensures in omega (arith, top, within, ne)))
+          c.scan_slot-below.new.heap c.scan_slot-below.new.marker c.scan_slot-below.result scan.gray scan.scanned
+          scan.traced scan.younger (omega (arith, low, from)),
       omega (arith, low, from),
       omega (arith, within, ne),
     )
@@ -216,25 +213,26 @@ loop-at-preserved c =
 -- all words are passed
 whole_scan : (c : goal.Then-met-to)
     → IsWordScan c.args.types.now c.args.heap.now c.loop-at.heap c.args.marker.now c.loop-at.marker
-    (c.args.older.item.place + c.args.run.offset) c.args.older.age c.min-from.result c.pass_words-met.result
-    c.loop-at.younger
+    c.args.older.item (c.args.older.item.place + c.args.run.offset) c.args.older.age c.min-from.result
+    c.pass_words-met.result c.loop-at.younger
 whole_scan c =
-    words_passed c.args.types.now c.args.heap.now c.loop-at.heap c.args.marker.now c.loop-at.marker c.args.older.item
-    (c.args.older.item.place + c.args.run.offset) c.args.older.age c.min-from.result c.loop-at.at c.loop-at.younger
-    c.requires.gray.closed c.requires.listed c.loop-at.invariant.0 c.pass_words-met.result c.min-to.result
+    words_passed c.args.types.now c.args.heap.now c.loop-at.heap c.args.marker.now c.loop-at.marker
+    c.args.older.item (c.args.older.item.place + c.args.run.offset) c.args.older.age c.min-from.result
+    c.loop-at.at c.loop-at.younger c.requires.gray.closed c.requires.listed
+    c.loop-at.invariant.0 c.pass_words-met.result
     c.looked_for-bound.result (c.looked_for-bound.ensures.bound
     ∙ ap (λ (g : ℕ). if c.loop-at.younger then g + 1 else c.args.older.age) c.oldest.ensures)
     (let above = c.looked_for-bound.ensures.above in let oldest = c.oldest.ensures in omega (arith, above, oldest))
-    (λ t here below. word_reference c.args.types.now c.args.older.item c.args.run.offset c.args.run.count t
-    c.requires.object c.requires.run (let top = c.min-to.ensures in omega (arith, top, below)))
-    c.pass_words-met.ensures.quiet c.pass_words-met.ensures.from c.pass_words-met.ensures.within
+    c.pass_words-met.ensures.quiet c.pass_words-met.ensures.from
 
 pub returns-then-met-to-clause-traced : goal.returns-then-met-to-clause-traced
 returns-then-met-to-clause-traced c =
-    words_traced c.args.types.now c.args.heap.now c.loop-at.heap c.args.marker.now c.loop-at.marker c.args.older.item
-    (c.args.older.item.place + c.args.run.offset) c.args.older.age c.min-from.result c.pass_words-met.result
-    c.loop-at.younger c.requires.gray.closed c.requires.listed (whole_scan c)
-    c.args.run.offset c.args.run.count c.min-to.result c.args.lo c.args.hi c.requires.run refl
+    words_traced c.args.types.now c.args.heap.now c.loop-at.heap c.args.marker.now c.loop-at.marker
+    c.args.older.item (c.args.older.item.place + c.args.run.offset) c.args.older.age c.min-from.result
+    c.pass_words-met.result c.loop-at.younger c.requires.gray.closed c.requires.listed
+    (whole_scan c)
+    c.args.run.count c.min-to.result c.args.lo c.args.hi
+    (word_number c.args.types.now c.args.older.item c.args.run.offset c.args.run.count c.requires.run)
     (let met = c.if-met-to.true in omega (arith, met))
     (λ t l. c.words_to-2.ensures.below t (let from = c.min-from.ensures in omega (arith, from, l)))
     (λ t l below. c.words_to.ensures.above t (let to = c.min-to.ensures in omega (arith, to, l, below)))
@@ -244,29 +242,36 @@ returns-then-met-to-clause-silent c all =
     let to = c.min-to.ensures in
     let from = c.min-from.ensures in
     let top = c.pass_words-met.ensures.within in
-    (whole_scan c).silent (λ s low high.
-    all (c.args.older.item.place + c.args.run.offset + 8 * s)
-    (word_reference c.args.types.now c.args.older.item c.args.run.offset c.args.run.count s c.requires.object
-    c.requires.run (omega (arith, to, top, high)))
-    (c.words_to-2.ensures.above s (omega (arith, from, to, low, high, top)))
-    (c.words_to.ensures.below s (omega (arith, to, top, high))))
+    words_silent c.args.types.now c.args.heap.now c.loop-at.heap c.args.marker.now c.loop-at.marker
+    c.args.older.item (c.args.older.item.place + c.args.run.offset) c.args.older.age c.min-from.result
+    c.pass_words-met.result c.loop-at.younger c.requires.gray.closed c.requires.listed
+    (whole_scan c)
+    c.args.lo c.args.hi all (λ s low high. (
+      c.words_to-2.ensures.above s (omega (arith, from, to, low, high, top)),
+      c.words_to.ensures.below s (omega (arith, to, high, top)),
+    ))
 
 pub returns-then-met-to-clause-clear : goal.returns-then-met-to-clause-clear
 returns-then-met-to-clause-clear c =
-    words_clear c.args.types.now c.args.heap.now c.loop-at.heap c.args.marker.now c.loop-at.marker c.args.older.item
-    (c.args.older.item.place + c.args.run.offset) c.args.older.age c.min-from.result c.pass_words-met.result
-    c.loop-at.younger c.requires.gray.closed c.requires.listed (whole_scan c)
-    c.args.run.offset c.args.run.count c.min-to.result c.args.lo c.args.hi c.requires.run refl
+    words_clear c.args.types.now c.args.heap.now c.loop-at.heap c.args.marker.now c.loop-at.marker
+    c.args.older.item (c.args.older.item.place + c.args.run.offset) c.args.older.age c.min-from.result
+    c.pass_words-met.result c.loop-at.younger c.requires.gray.closed c.requires.listed
+    (whole_scan c)
+    c.args.run.count c.min-to.result c.args.lo c.args.hi
+    (word_number c.args.types.now c.args.older.item c.args.run.offset c.args.run.count c.requires.run)
     (let met = c.if-met-to.true in omega (arith, met))
     (λ t l. c.words_to-2.ensures.below t (let from = c.min-from.ensures in omega (arith, from, l)))
     (λ t l below. c.words_to.ensures.above t (let to = c.min-to.ensures in omega (arith, to, l, below)))
 
 pub returns-clause-traced : goal.returns-clause-traced
 returns-clause-traced c =
-    words_traced c.args.types.now c.args.heap.now c.loop-at.heap c.args.marker.now c.loop-at.marker c.args.older.item
-    (c.args.older.item.place + c.args.run.offset) c.args.older.age c.min-from.result c.loop-at.at
-    c.loop-at.younger c.requires.gray.closed c.requires.listed c.loop-at.invariant.0
-    c.args.run.offset c.args.run.count c.min-to.result c.args.lo c.args.hi c.requires.run refl c.loop-at-test.false
+    words_traced c.args.types.now c.args.heap.now c.loop-at.heap c.args.marker.now c.loop-at.marker
+    c.args.older.item (c.args.older.item.place + c.args.run.offset) c.args.older.age c.min-from.result
+    c.loop-at.at c.loop-at.younger c.requires.gray.closed c.requires.listed
+    c.loop-at.invariant.0
+    c.args.run.count c.min-to.result c.args.lo c.args.hi
+    (word_number c.args.types.now c.args.older.item c.args.run.offset c.args.run.count c.requires.run)
+    c.loop-at-test.false
     (λ t l. c.words_to-2.ensures.below t (let from = c.min-from.ensures in omega (arith, from, l)))
     (λ t l below. c.words_to.ensures.above t (let to = c.min-to.ensures in omega (arith, to, l, below)))
 
@@ -275,18 +280,23 @@ returns-clause-silent c all =
     let to = c.min-to.ensures in
     let from = c.min-from.ensures in
     let top = c.loop-at.invariant.2 in
-    c.loop-at.invariant.0.silent (λ s low high.
-    all (c.args.older.item.place + c.args.run.offset + 8 * s)
-    (word_reference c.args.types.now c.args.older.item c.args.run.offset c.args.run.count s c.requires.object
-    c.requires.run (omega (arith, to, top, high)))
-    (c.words_to-2.ensures.above s (omega (arith, from, to, low, high, top)))
-    (c.words_to.ensures.below s (omega (arith, to, top, high))))
+    words_silent c.args.types.now c.args.heap.now c.loop-at.heap c.args.marker.now c.loop-at.marker
+    c.args.older.item (c.args.older.item.place + c.args.run.offset) c.args.older.age c.min-from.result
+    c.loop-at.at c.loop-at.younger c.requires.gray.closed c.requires.listed
+    c.loop-at.invariant.0
+    c.args.lo c.args.hi all (λ s low high. (
+      c.words_to-2.ensures.above s (omega (arith, from, to, low, high, top)),
+      c.words_to.ensures.below s (omega (arith, to, high, top)),
+    ))
 
 pub returns-clause-clear : goal.returns-clause-clear
 returns-clause-clear c =
-    words_clear c.args.types.now c.args.heap.now c.loop-at.heap c.args.marker.now c.loop-at.marker c.args.older.item
-    (c.args.older.item.place + c.args.run.offset) c.args.older.age c.min-from.result c.loop-at.at
-    c.loop-at.younger c.requires.gray.closed c.requires.listed c.loop-at.invariant.0
-    c.args.run.offset c.args.run.count c.min-to.result c.args.lo c.args.hi c.requires.run refl c.loop-at-test.false
+    words_clear c.args.types.now c.args.heap.now c.loop-at.heap c.args.marker.now c.loop-at.marker
+    c.args.older.item (c.args.older.item.place + c.args.run.offset) c.args.older.age c.min-from.result
+    c.loop-at.at c.loop-at.younger c.requires.gray.closed c.requires.listed
+    c.loop-at.invariant.0
+    c.args.run.count c.min-to.result c.args.lo c.args.hi
+    (word_number c.args.types.now c.args.older.item c.args.run.offset c.args.run.count c.requires.run)
+    c.loop-at-test.false
     (λ t l. c.words_to-2.ensures.below t (let from = c.min-from.ensures in omega (arith, from, l)))
     (λ t l below. c.words_to.ensures.above t (let to = c.min-to.ensures in omega (arith, to, l, below)))

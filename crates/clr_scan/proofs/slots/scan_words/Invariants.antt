@@ -4,7 +4,8 @@ use Rattle.clr_scan.proofs.slots.scan_words.Given as goal
 
 abbrev pub invariant-loop-at : goal.invariant-loop-at
 invariant-loop-at l =
-    IsWordScan l.types l.initial.heap l.heap l.initial.marker l.marker l.first l.older.age l.from l.at l.younger
+    IsWordScan l.types l.initial.heap l.heap l.initial.marker l.marker l.older.item l.first l.older.age l.from
+    l.at l.younger
     × (l.from ≤ l.at) × (l.at ≤ l.to)
 
 abbrev pub decreases-loop-at : goal.decreases-loop-at

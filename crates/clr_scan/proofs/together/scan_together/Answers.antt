@@ -12,8 +12,8 @@ use Rattle.clr_scan.proofs.together.scan_together.Goals as goal
 
 pub loop-at-init : goal.loop-at-init
 loop-at-init c = (
-  word_scan_starts c.args.types.now c.args.heap.now c.args.marker.now c.args.first c.args.older.age c.args.from
-      c.requires.gray,
+  word_scan_starts c.args.types.now c.args.heap.now c.args.marker.now c.args.older.item c.args.first c.args.older.age
+      c.args.from c.requires.gray,
   omega arith,
   c.requires.order,
   c.new-targets.ensures,
@@ -60,13 +60,14 @@ loop-at-preserved c =
     let up = c.gather_named-met.ensures.from in
     let within = c.gather_named-met.ensures.within in
     let part = gathered_scan rows c.loop-at.heap c.oldest-oldest.result c.args.older.age c.args.first c.loop-at.at met
-    c.gather_named-met.new.targets below c.gather_named-met.ensures.gathered c.mark_gathered.new.heap
+    c.gather_named-met.new.targets below c.gather_named-met.ensures.gathered c.args.older.item
+    (λ t l. c.requires.references t (omega (arith, within, l))) c.mark_gathered.new.heap
     c.loop-at.marker c.mark_gathered.new.marker c.oldest-oldest.ensures c.mark_gathered.ensures.gray
     c.mark_gathered.ensures.scanned c.mark_gathered.ensures.marked in (
       scans_joined rows c.args.heap.now c.loop-at.heap c.mark_gathered.new.heap c.args.marker.now c.loop-at.marker
           c.mark_gathered.new.marker c.args.older.item c.args.first c.args.older.age c.args.from c.loop-at.at met
           c.loop-at.younger below c.requires.gray.closed c.requires.listed inv.0 part
-          (λ t l. c.requires.references t (omega (arith, within, l))) (c.loop-at.younger || below) low up
+          (c.loop-at.younger || below) low up
           (younger_parts c.loop-at.younger below) (younger_joined c.loop-at.younger below),
       omega (arith, low, up),
       within,
@@ -86,7 +87,7 @@ returns c =
     record {
       gray = s.gray;
       scanned = s.scanned;
-      traced = λ j l b. s.traced j l (omega (arith, past, b));
-      silent = let most = c.loop-at.invariant.2 in λ all. s.silent (λ j l b. all j l (omega (arith, most, b)));
-      clear = λ none j l b. s.clear none j l (omega (arith, past, b));
+      traced = λ j l b. s.traced j l (omega (arith, past, b)) (c.requires.references j b);
+      silent = let most = c.loop-at.invariant.2 in λ all. s.silent (λ j l b _. all j l (omega (arith, most, b)));
+      clear = λ none j l b. s.clear none j l (omega (arith, past, b)) (c.requires.references j b);
     }

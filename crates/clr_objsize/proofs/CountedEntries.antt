@@ -34,7 +34,7 @@ use Rattle.clr_objsize.specs.declared.sizes.Total.{Total}
 use Rattle.clr_objsize.proofs.OneMore.{or_false, sum-one_more}
 
 -- where nothing passes the sum is 0
-sum-none : {X : Type 0} (weight : X → ℕ) (xs : List X) → sum_by (counted (λ (x : X). false) weight) xs ≡ 0
+pub sum-none : {X : Type 0} (weight : X → ℕ) (xs : List X) → sum_by (counted (λ (x : X). false) weight) xs ≡ 0
 sum-none weight [] = refl
 sum-none weight (x ∷ xs) =
     let one = sum_by-cons (counted (λ y. false) weight) x xs in
